@@ -1,0 +1,6 @@
+pub mod Walks
+pub mod Bounds
+pub mod Pairs
+pub mod Tallies
+pub mod Integers
+pub mod Assessing

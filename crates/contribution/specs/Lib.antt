@@ -1,0 +1,6 @@
+pub mod Refusals
+pub mod Isins
+pub mod Checks
+pub mod Steps
+pub mod Positions
+pub mod Contribution
