@@ -92,7 +92,7 @@ gained ts s =
     let e : gain s ts ≡ pos (p + o * s .price) -ℤ pos (r + b * s .price) = ap (λ z. (pos p -ℤ pos r) -ℤ z) n ∙ omega (arith, ints) in
     ap (λ z. z *ℤ pos (s .rate)) e ∙ times (p + o * s .price) (r + b * s .price) (s .rate)
 
-provisional-is : (ss : List Security) (ts : List Trade) →
+pub provisional-is : (ss : List Security) (ts : List Trade) →
     provisional ss ts ≡ rounded-up (sumBy (λ s. at-risk s (position s ts)) ss + 10000 * (sumBy (λ s. up s (position s ts)) ss - sumBy (λ s. down s (position s ts)) ss))
 provisional-is ss ts =
     let u : Security → ℕ = λ s. up s (position s ts) in

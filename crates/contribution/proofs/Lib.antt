@@ -4,3 +4,4 @@ pub mod Pairs
 pub mod Tallies
 pub mod Integers
 pub mod Assessing
+pub mod Reliance

@@ -4,3 +4,4 @@ pub mod Checks
 pub mod Steps
 pub mod Positions
 pub mod Contribution
+pub mod Laws

@@ -8,6 +8,7 @@ ghost use Rattle.contribution.specs.Refusals.{refusal};
 ghost use Rattle.contribution.specs.Steps.{provisional, calculated, rounded-up, renewed};
 ghost use Rattle.contribution.specs.Positions.{flat, Held};
 ghost use Rattle.contribution.specs.Contribution.{checks, verdict};
+ghost use Rattle.contribution.specs.Laws.{Sound};
 use crate::assessments::Assessment;
 use crate::checks::check_securities;
 use crate::faults::Fault;
@@ -82,6 +83,7 @@ pub fn contribution(
     last: u64,
 ) -> Result<Assessment, Fault>
     ensures verdict { λ r. ⌜ answer refusal r ≡ verdict (now (securities .entry)) (now (trades .entry)) last ⌝ }
+    ensures sound { λ r. ⌜ made r (λ a. Sound (now (securities .entry)) (now (trades .entry)) last a) ⌝ }
 {
     let mut positions = [Position::FLAT; 64];
     let limits = Limits {

@@ -67,3 +67,8 @@ clear-at f (x ∷ xs) i zero d e h = rw add-zero (clear-both (f i x) (each-from 
 clear-at f (x ∷ xs) i (suc k) d e h =
     let n : i + suc k ≡ (i + 1) + k = omega arith in
     rw n (clear-at f xs (i + 1) k d (clear-both (f i x) (each-from f (i + 1) xs) e .1) (omega arith))
+
+pub clear-first : (c : Check) (cs : List Check) → Ok tt ≡ clear (c ∷ cs) → (c .0 ≡ false) × (Ok tt ≡ clear cs)
+clear-first c cs e =
+    elim (c .0) as (λ b. Ok tt ≡ cond b (Err (c .1)) (clear cs) → (b ≡ false) × (Ok tt ≡ clear cs))
+    [ true ↦ λ h. (let z : _≡_ {A = ℕ} 0 1 = cc in absurd (omega arith)) | false ↦ λ h. (refl, h) ] e

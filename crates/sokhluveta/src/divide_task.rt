@@ -5,64 +5,12 @@ ghost use Rattle.std.specs.Of.Vec.{vec-items};
 ghost use Rattle.std.specs.Vec.{made};
 ghost use Rattle.division.specs.Division.{parts-of};
 ghost use Rattle.sokhluveta.specs.declared.divide_task.Weight.{Weight};
-use division::Fault;
-use division::FaultDebug;
+use crate::trouble::MemoryTrouble;
+use crate::trouble::RefusedTrouble;
+use crate::trouble::Trouble;
 use division::Weighted;
 use division::divide;
-use std::alloc::AllocError;
 use std::alloc::Global;
-use std::alloc::Refused;
-use std::error::Error;
-use std::fmt;
-
-// Why there is no division.
-#[derive(Debug, Drop)]
-pub(crate) enum Trouble {
-    NoAmount,
-    // the word at this place, counted from 1
-    NotANumber(usize),
-    Refused(Fault),
-    Memory,
-}
-
-pub(crate) impl From<AllocError> for Trouble as MemoryTrouble {
-    fn from(_: AllocError) -> Self {
-        Trouble::Memory
-    }
-}
-
-pub(crate) impl<T: Drop> From<Refused<T>> for Trouble as RefusedTrouble {
-    fn from(_: Refused<T>) -> Self {
-        Trouble::Memory
-    }
-}
-
-pub(crate) impl fmt::Display for Trouble as TroubleDisplay {
-    fn fmt<W: fmt::Write>(&self, f: &mut fmt::Formatter<W>) -> fmt::Result {
-        match self {
-            Trouble::NoAmount => write!(f, "no amount: write an amount and then the weights"),
-            Trouble::NotANumber(place) => write!(f, "word {place} is not a whole number"),
-            Trouble::Refused(fault) => {
-                let refusal = fault.refusal();
-                let number = refusal.number;
-                let letter = refusal.layer.letter();
-                write!(f, "refused {number} {letter}: ")?;
-                f.write_str(reason(fault))
-            }
-            Trouble::Memory => write!(f, "out of memory"),
-        }
-    }
-}
-
-pub(crate) impl Error for Trouble as TroubleError {}
-
-fn reason(fault: &Fault) -> &'static str {
-    match fault {
-        Fault::Things => "more than 64 weights, or weights above 4,000,000,000 in sum",
-        Fault::Amount => "the amount is above 4,000,000,000",
-        Fault::NoWeight => "the weights sum to 0",
-    }
-}
 
 #[derive(Clone, Copy)]
 struct Weight {
@@ -115,7 +63,7 @@ fn divided(heap: Global, request: &Request) -> Result<Vec<u64>, Trouble>
         parts.as_mut_slice(),
     ) {
         Ok(()) => Ok(parts),
-        Err(fault) => Err(Trouble::Refused(fault)),
+        Err(fault) => Err(Trouble::NotDivided(fault)),
     }
 }
 
@@ -142,6 +90,8 @@ pub(crate) fn reply(heap: Global, text: &str) -> Result<String, Trouble> {
 #[cfg(test)]
 mod tests {
     use super::*;
+    use crate::trouble::TroubleDebug;
+    use crate::trouble::TroubleDisplay;
     use std::test::*;
 
     // What the program says to this text.
@@ -163,14 +113,14 @@ mod tests {
             ("ten 1 1", "word 1 is not a whole number"),
             ("10 1 -1", "word 3 is not a whole number"),
             ("10 1 18446744073709551616", "word 3 is not a whole number"),
-            ("10", "refused 40 d: the weights sum to 0"),
+            ("10", "refused 40 d at 0: the weights sum to 0"),
             (
                 "4000000001 1",
-                "refused 12 d: the amount is above 4,000,000,000",
+                "refused 12 d at 0: the amount is above 4,000,000,000",
             ),
             (
                 "1 4000000000 1",
-                "refused 25 d: more than 64 weights, or weights above 4,000,000,000 in sum",
+                "refused 25 d at 0: more than 64 weights, or weights above 4,000,000,000 in sum",
             ),
         ];
         for (text, expected) in cases {

@@ -1,11 +1,13 @@
 // The program: one task, named by its argument, over what stands on standard input.
+mod contribution_task;
 mod divide_task;
+mod trouble;
 
-use divide_task::TroubleError;
 use std::env;
 use std::error::AnyError;
 use std::io;
 use std::io::Read;
+use trouble::TroubleError;
 
 // The most bytes that are read.
 const BYTES: usize = 65_536;
@@ -20,15 +22,19 @@ fn input(rt: &LibcRuntime) -> Result<String, AnyError> {
 
 fn run(rt: &LibcRuntime) -> Result<(), AnyError> {
     let task = env::args(rt)?.nth(1);
-    match task {
-        Some(name) if name.as_str() == "divide" => {
-            let text = input(rt)?;
-            let report = divide_task::reply(rt.alloc(), text.as_str())?;
-            rt.print(report.as_str())?;
-            Ok(())
-        }
-        _ => Err("name a task: sokhluveta divide".into()),
-    }
+    let report = match task {
+        Some(name) if name.as_str() == "divide" => divide_task::reply(
+            rt.alloc(),
+            input(rt)?.as_str(),
+        )?,
+        Some(name) if name.as_str() == "contribution" => contribution_task::reply(
+            rt.alloc(),
+            input(rt)?.as_str(),
+        )?,
+        _ => return Err("name a task: sokhluveta divide, or sokhluveta contribution".into()),
+    };
+    rt.print(report.as_str())?;
+    Ok(())
 }
 
 fn main(rt: LibcRuntime) -> Result<(), AnyError> {
