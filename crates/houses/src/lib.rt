@@ -1,0 +1,15 @@
+// Cash houses: what a house of accounts is, and the two that are kept, one over a table of balances and one over a list of entries.
+mod cash;
+mod faults;
+mod judging;
+mod numbers;
+mod openings;
+
+pub use cash::House;
+pub use faults::Fault;
+pub use faults::FaultDebug;
+pub use faults::FaultPartialEq;
+pub use numbers::Number;
+pub use openings::Opening;
+pub use openings::OpeningDebug;
+pub use openings::OpeningPartialEq;
