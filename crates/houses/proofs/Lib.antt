@@ -1,2 +1,4 @@
+pub mod Checked
 pub mod Opened
 pub mod Moved
+pub mod Tables

@@ -12,10 +12,12 @@ use Rattle.std.specs.declared.result.Result.{Result}
 use Rattle.std.specs.declared.result.Result.the-variants.{Ok, Err}
 use Rattle.std.proofs.shelf.Tests.{cases-bool, cases-lt, eqb-true, eqb-false}
 use Rattle.std.proofs.shelf.Ways.{tells}
-use Rattle.division.specs.Refusals.{answer, after}
+use Rattle.division.specs.declared.refusals.Refusal.{Refusal}
+use Rattle.division.specs.Refusals.{answer, checked, after}
 use Rattle.houses.specs.declared.faults.Fault.{Fault}
 use Rattle.houses.specs.Refusals.{refusal}
-use Rattle.houses.specs.Balances.{held, Sound, verdict, moved, below, money}
+use Rattle.houses.specs.Balances.{held, Sound, checks, verdict, moved, below, money}
+use Rattle.houses.proofs.Checked.{passes}
 
 module _ (ready : Bool) (b : ℕ → Option ℕ) (f t a : ℕ) where
   -- what holds of a transfer that can be made
@@ -28,6 +30,13 @@ module _ (ready : Bool) (b : ℕ → Option ℕ) (f t a : ℕ) where
 
   pub makable : verdict ready b f t a ≡ Ok tt → Makable
   makable e = record { apart = grind (arith, tells); payer = grind (arith, tells); receiver = grind (arith, tells); enough = grind (arith, tells); room = grind (arith, tells) }
+
+  -- what the judge's answer tells of a transfer that it lets pass
+  pub passed : (less more : ℕ) → _≡_ {A = Result (ℕ × ℕ) Refusal} (Ok (less, more)) (checked (checks ready b f t a) (held (b f) - a, held (b t) + a))
+      → (verdict ready b f t a ≡ Ok tt) × (less ≡ held (b f) - a) × (more ≡ held (b t) + a)
+  passed less more e =
+      let p = passes (checks ready b f t a) (held (b f) - a, held (b t) + a) (less, more) tt e in
+      (p .1, ap (λ n. n .0) (p .0), ap (λ n. n .1) (p .0))
 
   -- the money below n, with what the payer lost and the receiver got if they are below n
   below-moved : (f ≡ t → ⊥) → a ≤ held (b f) → (n : ℕ) → below n (moved b f t a) + cond (ltb f n) a 0 ≡ below n b + cond (ltb t n) a 0

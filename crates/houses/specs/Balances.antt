@@ -35,6 +35,10 @@ checks ready b from to amount =
 abbrev pub verdict : Bool → (ℕ → Option ℕ) → ℕ → ℕ → ℕ → Result (Unit {0}) Refusal
 verdict ready b from to amount = checked (checks ready b from to amount) tt
 
+-- the balances with another one for the account n
+abbrev pub rewritten : (ℕ → Option ℕ) → ℕ → ℕ → ℕ → Option ℕ
+rewritten b n balance k = cond (eqb k n) (Some balance) (b k)
+
 -- the balances after a transfer: the payer has the amount less, the receiver the amount more, the others what they had
 abbrev pub moved : (ℕ → Option ℕ) → ℕ → ℕ → ℕ → ℕ → Option ℕ
 moved b from to amount k =

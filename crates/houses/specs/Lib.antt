@@ -1,3 +1,4 @@
 pub mod Refusals
 pub mod Balances
 pub mod Openings
+pub mod Table

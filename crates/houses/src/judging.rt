@@ -22,7 +22,7 @@ pub fn judge(
     to: u64,
     amount: u64,
 ) -> Result<(u64, u64), Fault>
-    ensures { λ r. ⌜ ((b : ℕ → Option ℕ) → b from ≡ payer → b to ≡ receiver → answer refusal r ≡ checked (checks ready b from to amount) (held payer - amount, held receiver + amount)) ⌝ }
+    ensures { λ r. ⌜ ((b : ℕ → Option ℕ) → b from ≡ payer → b to ≡ receiver → answer refusal r ≡ checked (checks ready b from to amount) (held (b from) - amount, held (b to) + amount)) ⌝ }
 {
     if amount == 0 || amount > AMOUNT {
         return Err(Fault::Amount);

@@ -4,6 +4,7 @@ mod faults;
 mod judging;
 mod numbers;
 mod openings;
+mod table;
 
 pub use cash::House;
 pub use faults::Fault;
@@ -13,3 +14,4 @@ pub use numbers::Number;
 pub use openings::Opening;
 pub use openings::OpeningDebug;
 pub use openings::OpeningPartialEq;
+pub use table::Account;
