@@ -2,7 +2,7 @@
 use mathlib.Core.Path.{_≡_, refl, sym, ap, fun-ext, _∙_}
 use mathlib.Core.Logic.{inl, inr}
 use mathlib.Core.Bool.{true, false, cond}
-use mathlib.Core.List.{List, [], _∷_}
+use mathlib.Core.List.{List, [], _∷_, map}
 use Prim.Native.Nat.{ℕ, zero, suc, _+_, _-_, _<_, _≤_}
 use native.Mathlib.Omega.{arith}
 use lib.Dec.{eqb}
@@ -12,8 +12,10 @@ use Rattle.std.specs.declared.option.Option.{Option}
 use Rattle.std.specs.declared.option.Option.the-variants.{Some, None}
 use Rattle.std.proofs.shelf.Lists.{at-drop-more}
 use Rattle.std.proofs.shelf.Tests.{cases-bool, eqb-true, eqb-false, eq-eqb, ne-eqb}
+use Rattle.houses.specs.declared.openings.Opening.{Opening}
 use Rattle.houses.specs.declared.table.Account.{Account}
 use Rattle.houses.specs.Balances.{held, rewritten, moved}
+use Rattle.houses.specs.Openings.{opened}
 use Rattle.houses.specs.Table.{kept}
 
 pub here : (xs : List Account) (k i : ℕ) (d : Account) → i < length xs → getD xs i d .number ≡ k → kept (drop i xs) k ≡ Some (getD xs i d .balance)
@@ -49,3 +51,13 @@ unkept (a ∷ xs) k d none =
 pub both : (b : ℕ → Option ℕ) (f t a : ℕ) → (f ≡ t → ⊥) → rewritten (rewritten b f (held (b f) - a)) t (held (b t) + a) ≡ moved b f t a
 both b f t a apart = fun-ext (λ k. elim (cases-bool (eqb k f))
     [ inl u ↦ (let w : eqb k t ≡ false = ne-eqb k t (λ e. apart (let g = eqb-true k f u in cc)) in simp (u, w)) | inr u ↦ simp u ])
+
+abbrev pub account-of : Opening → Account
+account-of o = record { number = o .account; balance = o .balance }
+
+pub kept-opened : (os : List Opening) → kept (map account-of os) ≡ opened os
+kept-opened os = fun-ext (λ k. go os k)
+  where
+  go : (os : List Opening) (k : ℕ) → kept (map account-of os) k ≡ opened os k
+  go [] k = refl
+  go (o ∷ os) k = ap (λ r. cond (eqb k (o .account)) (Some (o .balance)) r) (go os k)

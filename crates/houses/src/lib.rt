@@ -5,6 +5,8 @@ mod judging;
 mod numbers;
 mod openings;
 mod table;
+mod table_calls;
+mod table_house;
 
 pub use cash::House;
 pub use faults::Fault;
@@ -15,3 +17,5 @@ pub use openings::Opening;
 pub use openings::OpeningDebug;
 pub use openings::OpeningPartialEq;
 pub use table::Account;
+pub use table_calls::TableHouseHouse;
+pub use table_house::TableHouse;
