@@ -2,3 +2,4 @@ pub mod Checked
 pub mod Opened
 pub mod Moved
 pub mod Tables
+pub mod Booked

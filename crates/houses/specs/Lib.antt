@@ -2,3 +2,4 @@ pub mod Refusals
 pub mod Balances
 pub mod Openings
 pub mod Table
+pub mod Entries

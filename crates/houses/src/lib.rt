@@ -1,5 +1,6 @@
 // Cash houses: what a house of accounts is, and the two that are kept, one over a table of balances and one over a list of entries.
 mod cash;
+mod entries;
 mod faults;
 mod judging;
 mod numbers;
@@ -9,6 +10,9 @@ mod table_calls;
 mod table_house;
 
 pub use cash::House;
+pub use entries::Entry;
+pub use entries::EntryDebug;
+pub use entries::EntryPartialEq;
 pub use faults::Fault;
 pub use faults::FaultDebug;
 pub use faults::FaultPartialEq;
