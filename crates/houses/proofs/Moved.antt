@@ -1,5 +1,5 @@
 -- A transfer that can be made keeps the limits of a house and the money in it.
-use mathlib.Core.Path.{_≡_, refl, sym, ap, subst, _∙_}
+use mathlib.Core.Path.{_≡_, refl, sym, ap, subst, fun-ext, _∙_}
 use mathlib.Core.Logic.{inl, inr}
 use mathlib.Core.Bool.{Bool, true, false, cond}
 use Prim.Native.Nat.{ℕ, zero, suc, _+_, _-_, _≤_, _<_}
@@ -10,26 +10,27 @@ use Rattle.std.specs.declared.option.Option.{Option}
 use Rattle.std.specs.declared.option.Option.the-variants.{Some, None}
 use Rattle.std.specs.declared.result.Result.{Result}
 use Rattle.std.specs.declared.result.Result.the-variants.{Ok, Err}
-use Rattle.std.proofs.shelf.Tests.{cases-bool, cases-lt, eqb-true, eqb-false}
+use Rattle.std.proofs.shelf.Tests.{cases-bool, eqb-true, eqb-false, both-ways}
 use Rattle.std.proofs.shelf.Ways.{tells}
 use Rattle.division.specs.declared.refusals.Refusal.{Refusal}
 use Rattle.division.specs.Refusals.{answer, checked, after}
 use Rattle.houses.specs.declared.faults.Fault.{Fault}
 use Rattle.houses.specs.Refusals.{refusal}
-use Rattle.houses.specs.Balances.{held, Sound, checks, verdict, moved, below, money}
+use Rattle.houses.specs.Balances.{held, Sound, Same, checks, verdict, moved, below, money}
 use Rattle.houses.proofs.Checked.{passes}
 
 module _ (ready : Bool) (b : ℕ → Option ℕ) (f t a : ℕ) where
   -- what holds of a transfer that can be made
   pub record Makable : Type 0 where
     pub apart : f ≡ t → ⊥
+    pub takes : ready ≡ true
     pub payer : isSome (b f) ≡ true
     pub receiver : isSome (b t) ≡ true
     pub enough : a ≤ held (b f)
     pub room : held (b t) + a ≤ 1000000000000000
 
   pub makable : verdict ready b f t a ≡ Ok tt → Makable
-  makable e = record { apart = grind (arith, tells); payer = grind (arith, tells); receiver = grind (arith, tells); enough = grind (arith, tells); room = grind (arith, tells) }
+  makable e = record { apart = grind (arith, tells); takes = grind (arith, tells); payer = grind (arith, tells); receiver = grind (arith, tells); enough = grind (arith, tells); room = grind (arith, tells) }
 
   -- what the judge's answer tells of a transfer that it lets pass
   pub passed : (less more : ℕ) → _≡_ {A = Result (ℕ × ℕ) Refusal} (Ok (less, more)) (checked (checks ready b f t a) (held (b f) - a, held (b t) + a))
@@ -80,3 +81,16 @@ module _ (ready : Bool) (b c : ℕ → Option ℕ) (f t a : ℕ) (sound : Sound 
   pub sound-kept : (r : Result (Unit {0}) Fault) → answer refusal r ≡ verdict ready b f t a → c ≡ after r (moved b f t a) b → Sound c
   sound-kept (Ok v) e s = subst Sound (sym s) (sound-moved ready b f t a sound (sym e))
   sound-kept (Err x) e s = subst Sound (sym s) sound
+
+-- balances are the same where accounts and money are
+pub from-same : (b c : ℕ → Option ℕ) → Same b c → b ≡ c
+from-same b c s = fun-ext (λ k. go (b k) (c k) (s .0 k) (s .1 k))
+  where
+  go : (o p : Option ℕ) → isSome o ≡ isSome p → held o ≡ held p → o ≡ p
+  go None None e h = refl
+  go None (Some n) e h = absurd (both-ways false refl e)
+  go (Some m) None e h = absurd (both-ways false refl (sym e))
+  go (Some m) (Some n) e h = ap Some h
+
+pub to-same : (b c : ℕ → Option ℕ) → b ≡ c → Same b c
+to-same b c e = (λ k. ap (λ x. isSome (x k)) e, λ k. ap (λ x. held (x k)) e)

@@ -21,6 +21,10 @@ held b = valueOr b 0
 abbrev pub Sound : (ℕ → Option ℕ) → Type 0
 Sound b = ((k : ℕ) → isSome (b k) ≡ true → k ≤ 9999) × ((k : ℕ) → held (b k) ≤ 1000000000000000)
 
+-- the same accounts with the same money
+abbrev pub Same : (ℕ → Option ℕ) → (ℕ → Option ℕ) → Type 0
+Same b c = ((k : ℕ) → isSome (b k) ≡ isSome (c k)) × ((k : ℕ) → held (b k) ≡ held (c k))
+
 -- the checks of a transfer in a house with the balances b, in order
 abbrev pub checks : Bool → (ℕ → Option ℕ) → ℕ → ℕ → ℕ → List (Bool × Refusal)
 checks ready b from to amount =

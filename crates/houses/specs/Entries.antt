@@ -7,9 +7,14 @@ use Rattle.std.specs.Options.{mapped}
 use Rattle.std.specs.shelf.Lists.{sumBy, folded}
 use Rattle.std.specs.declared.option.Option.{Option}
 use Rattle.std.specs.declared.option.Option.the-variants.{Some, None}
+use Rattle.houses.specs.declared.openings.Opening.{Opening as Told}
 use Rattle.houses.specs.declared.entries.Entry.{Entry}
 use Rattle.houses.specs.declared.entries.Entry.the-variants.{Opening, Transfer}
 use Rattle.houses.specs.Balances.{held, moved}
+
+-- an account that is handed in, as an entry
+abbrev pub entry-of : Told → Entry
+entry-of o = Opening (o .account) (o .balance)
 
 -- the opening balance of each account
 abbrev pub opening : List Entry → ℕ → Option ℕ
