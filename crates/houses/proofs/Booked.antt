@@ -53,10 +53,10 @@ module _ (f t a : ℕ) where
   opening-push : (es : List Entry) → opening (es ++ Transfer f t a ∷ []) ≡ opening es
   opening-push es = fun-ext (λ k. go es k)
     where
-    go : (es : List Entry) (k : ℕ) → opening (es ++ Transfer f t a ∷ []) k ≡ opening es k
-    go [] k = refl
-    go (Opening n b ∷ es) k = ap (λ r. cond (eqb k n) (Some b) r) (go es k)
-    go (Transfer g u c ∷ es) k = go es k
+      go : (es : List Entry) (k : ℕ) → opening (es ++ Transfer f t a ∷ []) k ≡ opening es k
+      go [] k = refl
+      go (Opening n b ∷ es) k = ap (λ r. cond (eqb k n) (Some b) r) (go es k)
+      go (Transfer g u c ∷ es) k = go es k
 
   module _ (ready : Bool) (es : List Entry) (covered : Covered es) (m : Makable ready (booked es) f t a) where
     in-now : (k : ℕ) → sumBy (brings k) (es ++ Transfer f t a ∷ []) ≡ sumBy (brings k) es + cond (eqb k t) a 0
@@ -72,25 +72,28 @@ module _ (f t a : ℕ) where
         ∙ ap (λ n. net (opening es k) (sumBy (brings k) es + cond (eqb k t) a 0) n) (out-now k)
 
     pub booked-push : booked (es ++ Transfer f t a ∷ []) ≡ moved (booked es) f t a
-    booked-push = fun-ext (λ k. booked-now k ∙ elim (cases-bool (eqb k f))
-        [ inl u ↦ (let i : k ≡ f = eqb-true k f u in let w : eqb k t ≡ false = ne-eqb k t (λ e. m .apart (sym i ∙ e)) in
-            let there : isSome (booked es k) ≡ true = ap (λ j. isSome (booked es j)) i ∙ m .payer in
-            simp (u, w, add-zero) (net-payer (opening es k) (sumBy (brings k) es) (sumBy (takes k) es) a there ∙ ap (λ j. Some (held (booked es j) - a)) i))
-        | inr u ↦ elim (cases-bool (eqb k t))
-          [ inl w ↦ (let i : k ≡ t = eqb-true k t w in
-              let there : isSome (booked es k) ≡ true = ap (λ j. isSome (booked es j)) i ∙ m .receiver in
-              simp (u, w, add-zero) (net-receiver (opening es k) (sumBy (brings k) es) (sumBy (takes k) es) a there (covered k) ∙ ap (λ j. Some (held (booked es j) + a)) i))
-          | inr w ↦ simp (u, w, add-zero) ] ])
+    booked-push = fun-ext (λ k. booked-now k ∙ elim (cases-bool (eqb k f)) [
+      | inl u ↦ (let i : k ≡ f = eqb-true k f u in let w : eqb k t ≡ false = ne-eqb k t (λ e. m .apart (sym i ∙ e)) in
+          let there : isSome (booked es k) ≡ true = ap (λ j. isSome (booked es j)) i ∙ m .payer in
+          simp (u, w, add-zero) (net-payer (opening es k) (sumBy (brings k) es) (sumBy (takes k) es) a there ∙ ap (λ j. Some (held (booked es j) - a)) i))
+      | inr u ↦ elim (cases-bool (eqb k t)) [
+        | inl w ↦ (let i : k ≡ t = eqb-true k t w in
+            let there : isSome (booked es k) ≡ true = ap (λ j. isSome (booked es j)) i ∙ m .receiver in
+            simp (u, w, add-zero) (net-receiver (opening es k) (sumBy (brings k) es) (sumBy (takes k) es) a there (covered k) ∙ ap (λ j. Some (held (booked es j) + a)) i))
+        | inr w ↦ simp (u, w, add-zero)
+      ]
+    ])
 
     pub covered-push : Covered (es ++ Transfer f t a ∷ [])
     covered-push k =
         let got = in-now k in let gave = out-now k in let before = covered k in
         let opens : held (opening (es ++ Transfer f t a ∷ []) k) ≡ held (opening es k) = ap (λ b. held (b k)) (opening-push es) in
-        elim (cases-bool (eqb k f))
-        [ inl u ↦ (let i = eqb-true k f u in let paid : a ≤ held (booked es k) = (let e = ap (λ j. held (booked es j)) i in omega (arith, m .enough)) in
-            let under = net-is (opening es k) (sumBy (brings k) es) (sumBy (takes k) es) in
-            let gave2 = simp u at gave in omega arith)
-        | inr u ↦ (let gave2 = simp (u, add-zero) at gave in omega arith) ]
+        elim (cases-bool (eqb k f)) [
+          | inl u ↦ (let i = eqb-true k f u in let paid : a ≤ held (booked es k) = (let e = ap (λ j. held (booked es j)) i in omega (arith, m .enough)) in
+              let under = net-is (opening es k) (sumBy (brings k) es) (sumBy (takes k) es) in
+              let gave2 = simp u at gave in omega arith)
+          | inr u ↦ (let gave2 = simp (u, add-zero) at gave in omega arith)
+        ]
 
     pub in-order-push : booked es ≡ carried es → booked (es ++ Transfer f t a ∷ []) ≡ carried (es ++ Transfer f t a ∷ [])
     in-order-push same =
@@ -121,6 +124,6 @@ covered-opened os k = let e = idle (takes k) (λ o. refl) os in omega arith
 pub in-order-opened : (os : List Told) → booked (map entry-of os) ≡ carried (map entry-of os)
 in-order-opened os = booked-opened os ∙ sym (go (opening (map entry-of os)) os ∙ fun-ext (λ k. opening-opened os k))
   where
-  go : (b : ℕ → Option ℕ) (os : List Told) → folded with-entry b (map entry-of os) ≡ b
-  go b [] = refl
-  go b (o ∷ os) = go b os
+    go : (b : ℕ → Option ℕ) (os : List Told) → folded with-entry b (map entry-of os) ≡ b
+    go b [] = refl
+    go b (o ∷ os) = go b os

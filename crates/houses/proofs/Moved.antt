@@ -45,11 +45,13 @@ module _ (ready : Bool) (b : ℕ → Option ℕ) (f t a : ℕ) where
   below-moved ne h zero = grind (arith, tells)
   below-moved ne h (suc n) =
       let before = below-moved ne h n in
-      elim (cases-bool (eqb n f))
-      [ inl e ↦ (let i : n ≡ f = eqb-true n f e in let g : held (moved b f t a n) ≡ held (b f) - a = simp e in let s : held (b n) ≡ held (b f) = ap (λ k. held (b k)) i in grind (arith, tells))
-      | inr e ↦ elim (cases-bool (eqb n t))
-        [ inl e2 ↦ (let i : n ≡ t = eqb-true n t e2 in let g : held (moved b f t a n) ≡ held (b t) + a = simp (e, e2) in let s : held (b n) ≡ held (b t) = ap (λ k. held (b k)) i in let ne2 = eqb-false n f e in grind (arith, tells))
-        | inr e2 ↦ (let g : held (moved b f t a n) ≡ held (b n) = simp (e, e2) in let ne1 = eqb-false n f e in let ne2 = eqb-false n t e2 in grind (arith, tells)) ] ]
+      elim (cases-bool (eqb n f)) [
+        | inl e ↦ (let i : n ≡ f = eqb-true n f e in let g : held (moved b f t a n) ≡ held (b f) - a = simp e in let s : held (b n) ≡ held (b f) = ap (λ k. held (b k)) i in grind (arith, tells))
+        | inr e ↦ elim (cases-bool (eqb n t)) [
+          | inl e2 ↦ (let i : n ≡ t = eqb-true n t e2 in let g : held (moved b f t a n) ≡ held (b t) + a = simp (e, e2) in let s : held (b n) ≡ held (b t) = ap (λ k. held (b k)) i in let ne2 = eqb-false n f e in grind (arith, tells))
+          | inr e2 ↦ (let g : held (moved b f t a n) ≡ held (b n) = simp (e, e2) in let ne1 = eqb-false n f e in let ne2 = eqb-false n t e2 in grind (arith, tells))
+        ]
+      ]
 
   pub money-moved : Sound b → verdict ready b f t a ≡ Ok tt → money (moved b f t a) ≡ money b
   money-moved sound e =
@@ -62,14 +64,17 @@ module _ (ready : Bool) (b : ℕ → Option ℕ) (f t a : ℕ) where
   pub sound-moved : Sound b → verdict ready b f t a ≡ Ok tt → Sound (moved b f t a)
   sound-moved sound e =
       let m = makable e in (
-        λ k h. elim (cases-bool (eqb k f))
-            [ inl u ↦ (let i = eqb-true k f u in let l = sound .0 f (m .payer) in omega arith)
-            | inr u ↦ elim (cases-bool (eqb k t))
-              [ inl v ↦ (let i = eqb-true k t v in let l = sound .0 t (m .receiver) in omega arith)
-              | inr v ↦ sound .0 k (simp (u, v) at h) ] ],
-        λ k. elim (cases-bool (eqb k f))
-            [ inl u ↦ simp u (omega (arith, sound .1 f))
-            | inr u ↦ elim (cases-bool (eqb k t)) [ inl v ↦ simp (u, v) (m .room) | inr v ↦ simp (u, v) (sound .1 k) ] ],
+        λ k h. elim (cases-bool (eqb k f)) [
+          | inl u ↦ (let i = eqb-true k f u in let l = sound .0 f (m .payer) in omega arith)
+          | inr u ↦ elim (cases-bool (eqb k t)) [
+            | inl v ↦ (let i = eqb-true k t v in let l = sound .0 t (m .receiver) in omega arith)
+            | inr v ↦ sound .0 k (simp (u, v) at h)
+          ]
+        ],
+        λ k. elim (cases-bool (eqb k f)) [
+          | inl u ↦ simp u (omega (arith, sound .1 f))
+          | inr u ↦ elim (cases-bool (eqb k t)) [ inl v ↦ simp (u, v) (m .room) | inr v ↦ simp (u, v) (sound .1 k) ]
+        ],
       )
 
 -- the two for any answer, as the house that gives it states them
@@ -86,11 +91,11 @@ module _ (ready : Bool) (b c : ℕ → Option ℕ) (f t a : ℕ) (sound : Sound 
 pub from-same : (b c : ℕ → Option ℕ) → Same b c → b ≡ c
 from-same b c s = fun-ext (λ k. go (b k) (c k) (s .0 k) (s .1 k))
   where
-  go : (o p : Option ℕ) → isSome o ≡ isSome p → held o ≡ held p → o ≡ p
-  go None None e h = refl
-  go None (Some n) e h = absurd (both-ways false refl e)
-  go (Some m) None e h = absurd (both-ways false refl (sym e))
-  go (Some m) (Some n) e h = ap Some h
+    go : (o p : Option ℕ) → isSome o ≡ isSome p → held o ≡ held p → o ≡ p
+    go None None e h = refl
+    go None (Some n) e h = absurd (both-ways false refl e)
+    go (Some m) None e h = absurd (both-ways false refl (sym e))
+    go (Some m) (Some n) e h = ap Some h
 
 pub to-same : (b c : ℕ → Option ℕ) → b ≡ c → Same b c
 to-same b c e = (λ k. ap (λ x. isSome (x k)) e, λ k. ap (λ x. held (x k)) e)

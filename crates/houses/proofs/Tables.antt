@@ -58,6 +58,6 @@ account-of o = record { number = o .account; balance = o .balance }
 pub kept-opened : (os : List Opening) → kept (map account-of os) ≡ opened os
 kept-opened os = fun-ext (λ k. go os k)
   where
-  go : (os : List Opening) (k : ℕ) → kept (map account-of os) k ≡ opened os k
-  go [] k = refl
-  go (o ∷ os) k = ap (λ r. cond (eqb k (o .account)) (Some (o .balance)) r) (go os k)
+    go : (os : List Opening) (k : ℕ) → kept (map account-of os) k ≡ opened os k
+    go [] k = refl
+    go (o ∷ os) k = ap (λ r. cond (eqb k (o .account)) (Some (o .balance)) r) (go os k)

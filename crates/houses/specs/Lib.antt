@@ -3,3 +3,4 @@ pub mod Balances
 pub mod Openings
 pub mod Table
 pub mod Entries
+pub mod Comparing

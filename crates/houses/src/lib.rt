@@ -1,5 +1,6 @@
 // Cash houses: what a house of accounts is, and the two that are kept, one over a table of balances and one over a list of entries.
 mod cash;
+mod comparing;
 mod entries;
 mod faults;
 mod judging;
@@ -12,12 +13,18 @@ mod table_calls;
 mod table_house;
 
 pub use cash::House;
+pub use comparing::Transfer;
+pub use comparing::TransferDebug;
+pub use comparing::TransferPartialEq;
+pub use comparing::compare;
 pub use entries::Entry;
 pub use entries::EntryDebug;
 pub use entries::EntryPartialEq;
 pub use faults::Fault;
 pub use faults::FaultDebug;
 pub use faults::FaultPartialEq;
+pub use list_calls::ListHouseHouse;
+pub use list_house::ListHouse;
 pub use numbers::Number;
 pub use openings::Opening;
 pub use openings::OpeningDebug;
@@ -25,5 +32,3 @@ pub use openings::OpeningPartialEq;
 pub use table::Account;
 pub use table_calls::TableHouseHouse;
 pub use table_house::TableHouse;
-pub use list_house::ListHouse;
-pub use list_calls::ListHouseHouse;

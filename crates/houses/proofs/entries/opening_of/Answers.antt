@@ -11,9 +11,10 @@ returns-then-account-number c =
 
 pub loop-entry-again : need.loop-entry-again
 loop-entry-again c =
-    elim (c .match-entry .came)
-    [ in-Opening·else-account-number w ↦ sym (past-opening (c .args .entries .now) (c .args .number) (c .loop-entry .entry-index) (w .in-Opening .account) (w .in-Opening .balance) _ (c .loop-entry-test .taken) (w .in-Opening .is) (w .if-account-number .left)) ∙ c .loop-entry .inv
-    | in-rest w ↦ sym (past-transfer (c .args .entries .now) (c .args .number) (c .loop-entry .entry-index) (w .in-rest .field-0) (w .in-rest .field-1) (w .in-rest .field-2) _ (c .loop-entry-test .taken) (w .in-rest .is)) ∙ c .loop-entry .inv ]
+    elim (c .match-entry .came) [
+      | in-Opening·else-account-number w ↦ sym (past-opening (c .args .entries .now) (c .args .number) (c .loop-entry .entry-index) (w .in-Opening .account) (w .in-Opening .balance) _ (c .loop-entry-test .taken) (w .in-Opening .is) (w .if-account-number .left)) ∙ c .loop-entry .inv
+      | in-rest w ↦ sym (past-transfer (c .args .entries .now) (c .args .number) (c .loop-entry .entry-index) (w .in-rest .field-0) (w .in-rest .field-1) (w .in-rest .field-2) _ (c .loop-entry-test .taken) (w .in-rest .is)) ∙ c .loop-entry .inv
+    ]
 
 pub returns : need.returns
 returns c = sym (at-drop-all (λ es. opening es (c .args .number)) (c .args .entries .now) (c .loop-entry .entry-index) (c .loop-entry-test .left)) ∙ c .loop-entry .inv

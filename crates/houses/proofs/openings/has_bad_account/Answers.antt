@@ -21,10 +21,11 @@ pub returns-then-opening-gt-LAST : need.returns-then-opening-gt-LAST
 returns-then-opening-gt-LAST c =
     let e = faulty-more (c .args .openings .now) (c .loop-i .i) none (c .loop-i-test .taken) in
     let f = sought (need.at·returns-then-opening-gt-LAST c .After-find-after) in
-    elim (c .then-opening-gt-LAST .came)
-    [ then-opening-gt-LAST·by·then-opening-gt-LAST w ↦ grind (arith, tells, e, c .loop-i .inv)
-    | then-opening-gt-LAST·by·else-opening-gt-LAST·then-opening-gt-BALANCE w ↦ grind (arith, tells, e, c .loop-i .inv)
-    | then-opening-gt-LAST·by·else-opening-gt-LAST·else-opening-gt-BALANCE·then-is-some w ↦ grind (arith, tells, e, f, c .loop-i .inv) ]
+    elim (c .then-opening-gt-LAST .came) [
+      | then-opening-gt-LAST·by·then-opening-gt-LAST w ↦ grind (arith, tells, e, c .loop-i .inv)
+      | then-opening-gt-LAST·by·else-opening-gt-LAST·then-opening-gt-BALANCE w ↦ grind (arith, tells, e, c .loop-i .inv)
+      | then-opening-gt-LAST·by·else-opening-gt-LAST·else-opening-gt-BALANCE·then-is-some w ↦ grind (arith, tells, e, f, c .loop-i .inv)
+    ]
 
 pub loop-i-again : need.loop-i-again
 loop-i-again c =

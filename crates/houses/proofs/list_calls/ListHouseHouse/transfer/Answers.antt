@@ -61,14 +61,25 @@ ghost-self c =
     let f = c .args .from in let t = c .args .to in let n = c .args .amount in
     let xs = vec-items (c .args .self .now .entries) in
     let now = c .push-reserved .ensures .items in
-    let less = ltb-true (vec-len (c .args .self .now .entries)) (c .args .self .now .room) (can c .takes) in
-    (c .args .self .now .few,
-    (omega (arith, c .push-reserved .ensures .len),
-    (omega (arith, c .push-reserved .ensures .capacity, c .args .self .now .reserved),
-    (subst Covered (sym now) (covered-push f t n _ xs (c .args .self .now .covered) (can c)),
-    (subst Sound (sym (booked-now c)) (sound-moved _ (booked xs) f t n (c .args .self .now .sound) (judged c)),
-    (subst (λ ys. Same (booked ys) (carried ys)) (sym now) (to-same _ _ (in-order-push f t n _ xs (c .args .self .now .covered) (can c) (from-same _ _ (c .args .self .now .ordered)))),
-    tt))))))
+    let less = ltb-true (vec-len (c .args .self .now .entries)) (c .args .self .now .room) (can c .takes) in (
+      c .args .self .now .few,
+      (
+        omega (arith, c .push-reserved .ensures .len),
+        (
+          omega (arith, c .push-reserved .ensures .capacity, c .args .self .now .reserved),
+          (
+            subst Covered (sym now) (covered-push f t n _ xs (c .args .self .now .covered) (can c)),
+            (
+              subst Sound (sym (booked-now c)) (sound-moved _ (booked xs) f t n (c .args .self .now .sound) (judged c)),
+              (
+                subst (λ ys. Same (booked ys) (carried ys)) (sym now) (to-same _ _ (in-order-push f t n _ xs (c .args .self .now .covered) (can c) (from-same _ _ (c .args .self .now .ordered)))),
+                tt,
+              ),
+            ),
+          ),
+        ),
+      ),
+    )
 
 pub returns : need.returns
 returns c =

@@ -38,14 +38,25 @@ made c = c .loop-opening .inv .0 ∙ ap (map entry-of) (take-all (c .loop-openin
 pub ghost-result : need.ghost-result
 ghost-result c =
     let os = c .args .openings .now in
-    let p = list-passed os (c .args .room) (c .pre .checked) in
-    (p .0,
-    (omega (arith, c .loop-opening .inv .1, p .1),
-    (omega (arith, c .loop-opening .inv .2, c .pre .room),
-    (subst Covered (sym (made c)) (covered-opened os),
-    (subst (λ es. Sound (booked es)) (sym (made c)) (subst Sound (sym (booked-opened os)) (sound-opened os (p .2))),
-    (subst (λ es. Same (booked es) (carried es)) (sym (made c)) (to-same _ _ (in-order-opened os)),
-    tt))))))
+    let p = list-passed os (c .args .room) (c .pre .checked) in (
+      p .0,
+      (
+        omega (arith, c .loop-opening .inv .1, p .1),
+        (
+          omega (arith, c .loop-opening .inv .2, c .pre .room),
+          (
+            subst Covered (sym (made c)) (covered-opened os),
+            (
+              subst (λ es. Sound (booked es)) (sym (made c)) (subst Sound (sym (booked-opened os)) (sound-opened os (p .2))),
+              (
+                subst (λ es. Same (booked es) (carried es)) (sym (made c)) (to-same _ _ (in-order-opened os)),
+                tt,
+              ),
+            ),
+          ),
+        ),
+      ),
+    )
 
 pub returns : need.returns
 returns c =
