@@ -6,7 +6,7 @@ use crate::cash::House;
 use crate::faults::Fault;
 use crate::faults::FaultPartialEq;
 
-#[derive(Clone, Copy, PartialEq, Eq, Debug)]
+#[derive(Clone, Copy)]
 pub struct Transfer {
     pub from: u64,
     pub to: u64,

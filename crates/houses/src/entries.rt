@@ -6,7 +6,7 @@ ghost use Rattle.houses.specs.Balances.{Sound};
 ghost use Rattle.houses.specs.Entries.{opening, brings, takes, Covered, booked};
 use crate::numbers::Number;
 
-#[derive(Clone, Copy, PartialEq, Eq, Debug)]
+#[derive(Clone, Copy)]
 pub enum Entry {
     Opening {
         account: Number,

@@ -4,7 +4,7 @@ ghost use Rattle.houses.specs.Openings.{opened, faulty};
 use crate::judging::BALANCE;
 use crate::numbers::LAST;
 
-#[derive(Clone, Copy, PartialEq, Eq, Debug)]
+#[derive(Clone, Copy)]
 pub struct Opening {
     pub account: u64,
     pub balance: u64,
