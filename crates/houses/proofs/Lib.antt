@@ -1,0 +1,5 @@
+pub mod Opened
+pub mod Moved
+pub mod Tables
+pub mod Booked
+pub mod Alikes
