@@ -17,22 +17,10 @@ use std::test::*;
 
 // An ISIN for each n.
 fn isin(n: u8) -> Isin {
-    Isin {
-        bytes: [
-            b'P',
-            b'L',
-            b'0',
-            b'0',
-            b'0',
-            b'0',
-            b'0',
-            b'0',
-            b'0',
-            b'0',
-            b'A' + n / 10,
-            b'0' + n % 10,
-        ],
-    }
+    let mut bytes = *b"PL0000000000";
+    bytes[10] = b'A' + n / 10;
+    bytes[11] = b'0' + n % 10;
+    Isin { bytes }
 }
 
 const MALFORMED: Isin = Isin { bytes: [255; 12] };
@@ -92,7 +80,7 @@ fn worked_figures() -> Result<(), Fail> {
         provisional(&both, &[bought(0, 20_000, 1_100), bought(1, 20_000, 900)]),
         Ok(5_000_000),
     ).note("one maximum")?;
-    check_eq(steps(&both, &[], 0), Ok((0, MINIMUM, MINIMUM))).note("no trades")?;
+    check_eq(steps(&both, &[], 0), Ok((0, 2_000_000, 2_000_000))).note("no trades")?;
     check_eq(steps(&[], &[], 0), Ok((0, MINIMUM, MINIMUM))).note("nothing")
 }
 
@@ -230,7 +218,23 @@ fn form_of_an_isin() -> Result<(), Fail> {
         check(i < 12)?;
         let mut bytes = isin(0).bytes;
         bytes[i] = b;
-        check_eq(Isin { bytes }.is_well_formed(), holds).note(format_args!("{b} at {i}"))?;
+        let isin = Isin { bytes };
+        let (listed, traded) = if holds {
+            (Ok(0), Err(Fault::NotListed(0)))
+        } else {
+            (Err(Fault::SecurityIsin(0)), Err(Fault::TradeIsin(0)))
+        };
+        let security = Security {
+            isin,
+            ..security(0, 1, 0, 1)
+        };
+        let trade = Trade {
+            isin,
+            ..bought(0, 1, 1)
+        };
+        check_eq(isin.is_well_formed(), holds).note(format_args!("{b} at {i}"))?;
+        check_eq(provisional(&[security], &[]), listed).note(format_args!("{b} at {i}"))?;
+        check_eq(provisional(&[], &[trade]), traded).note(format_args!("{b} at {i}"))?;
     }
     Ok(())
 }
