@@ -3,7 +3,7 @@ use Prim.Native.Nat.{ℕ}
 use Rattle.division.specs.declared.refusals.Refusal.{Refusal}
 use Rattle.division.specs.declared.refusals.Layer.the-variants.{Contribution}
 use Rattle.contribution.specs.declared.faults.Fault.{Fault}
-use Rattle.contribution.specs.declared.faults.Fault.the-variants.{TooMany, SecurityIsin, Terms, ListedBefore, TradeIsin, Deal, NotListed, TooLarge, TooHigh}
+use Rattle.contribution.specs.declared.faults.Fault.the-variants.{TooMany, Isin, Terms, ListedBefore, Deal, NotListed, TooLarge, TooHigh}
 
 -- a refusal of the contribution, for what stands at a position
 abbrev pub by-contribution : ℕ → ℕ → Refusal
@@ -11,10 +11,9 @@ by-contribution n i = record { number = n; layer = Contribution; place = i }
 
 abbrev pub refusal : Fault → Refusal
 refusal TooMany = by-contribution 19 0
-refusal (SecurityIsin i) = by-contribution 13 i
+refusal (Isin i) = by-contribution 13 i
 refusal (Terms i) = by-contribution 14 i
 refusal (ListedBefore i) = by-contribution 15 i
-refusal (TradeIsin i) = by-contribution 13 i
 refusal (Deal i) = by-contribution 16 i
 refusal (NotListed i) = by-contribution 17 i
 refusal (TooLarge i) = by-contribution 18 i

@@ -42,7 +42,7 @@ fn check_security(securities: &[Security], i: usize, security: &Security) -> Res
     ensures { λ r. ⌜ answer refusal r ≡ clear (security-checks (take i (now (securities .entry))) i (now (security .entry))) ⌝ }
 {
     if !security.isin.is_well_formed() {
-        return Err(Fault::SecurityIsin(i));
+        return Err(Fault::Isin(i));
     }
     if !security.is_priced() {
         return Err(Fault::Terms(i));
@@ -69,7 +69,7 @@ pub(crate) fn check_trade(securities: &[Security], i: usize, trade: &Trade) -> R
     ensures found { λ r. ⌜ made r (λ k. (place (now (securities .entry)) (now (trade .entry) .isin .bytes) ≡ Some k) × (k < length (now (securities .entry))) × (dealt (now (trade .entry)) ≡ true)) ⌝ }
 {
     if !trade.isin.is_well_formed() {
-        return Err(Fault::TradeIsin(i));
+        return Err(Fault::Isin(i));
     }
     if !trade.is_dealt() {
         return Err(Fault::Deal(i));

@@ -8,11 +8,11 @@ use division::Refusal;
 pub enum Fault {
     // more securities or more trades than allowed
     TooMany,
-    SecurityIsin(usize),
+    // a malformed ISIN of a security or of a trade
+    Isin(usize),
     // a price, a risk or a rate out of its range
     Terms(usize),
     ListedBefore(usize),
-    TradeIsin(usize),
     // a quantity or a price out of its range
     Deal(usize),
     NotListed(usize),
@@ -28,10 +28,9 @@ impl Fault {
     {
         let (number, place) = match self {
             Fault::TooMany => (19, 0),
-            Fault::SecurityIsin(i) => (13, i),
+            Fault::Isin(i) => (13, i),
             Fault::Terms(i) => (14, i),
             Fault::ListedBefore(i) => (15, i),
-            Fault::TradeIsin(i) => (13, i),
             Fault::Deal(i) => (16, i),
             Fault::NotListed(i) => (17, i),
             Fault::TooLarge(i) => (18, i),

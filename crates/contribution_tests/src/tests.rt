@@ -222,7 +222,7 @@ fn form_of_an_isin() -> Result<(), Fail> {
         let (listed, traded) = if holds {
             (Ok(0), Err(Fault::NotListed(0)))
         } else {
-            (Err(Fault::SecurityIsin(0)), Err(Fault::TradeIsin(0)))
+            (Err(Fault::Isin(0)), Err(Fault::Isin(0)))
         };
         let security = Security {
             isin,
@@ -249,12 +249,12 @@ fn order_in_the_securities() -> Result<(), Fail> {
     };
     let repeated = security(0, 2, 1, 2);
     let cases = [
-        ([good, malformed, unpriced], Fault::SecurityIsin(1)),
+        ([good, malformed, unpriced], Fault::Isin(1)),
         ([good, unpriced, malformed], Fault::Terms(1)),
         ([repeated, good, malformed], Fault::ListedBefore(1)),
         ([good, unpriced, repeated], Fault::Terms(1)),
         ([unpriced, good, repeated], Fault::Terms(0)),
-        ([malformed, malformed, good], Fault::SecurityIsin(0)),
+        ([malformed, malformed, good], Fault::Isin(0)),
         ([good, repeated, repeated], Fault::ListedBefore(1)),
         (
             [good, security(1, 1, 0, 1), repeated],
@@ -283,7 +283,7 @@ fn order_in_the_trades() -> Result<(), Fail> {
     let unlisted = sold(1, 2, 100_000_000);
     let large = sold(0, 2, 100_000_000);
     let cases = [
-        ([good, malformed, undealt], Fault::TradeIsin(1)),
+        ([good, malformed, undealt], Fault::Isin(1)),
         ([good, undealt, malformed], Fault::Deal(1)),
         ([good, unlisted, malformed], Fault::NotListed(1)),
         ([large, malformed, undealt], Fault::TooLarge(0)),
@@ -410,10 +410,9 @@ fn positions_in_their_order() -> Result<(), Fail> {
 fn refusals_tell_number_layer_and_place() -> Result<(), Fail> {
     let told = [
         (Fault::TooMany, 19, 0),
-        (Fault::SecurityIsin(3), 13, 3),
+        (Fault::Isin(3), 13, 3),
         (Fault::Terms(63), 14, 63),
         (Fault::ListedBefore(1), 15, 1),
-        (Fault::TradeIsin(127), 13, 127),
         (Fault::Deal(2), 16, 2),
         (Fault::NotListed(0), 17, 0),
         (Fault::TooLarge(usize::MAX), 18, usize::MAX),

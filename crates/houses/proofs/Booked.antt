@@ -20,7 +20,7 @@ use Rattle.houses.specs.declared.entries.Entry.{Entry}
 use Rattle.houses.specs.declared.entries.Entry.the-variants.{Opening, Transfer}
 use Rattle.houses.specs.Balances.{held, moved}
 use Rattle.houses.specs.Openings.{opened}
-use Rattle.houses.specs.Entries.{entry-of, opening, brings, takes, had, Covered, booked, with-entry, carried}
+use Rattle.houses.specs.Entries.{entry-of, opening, brings, takes, Covered, booked, with-entry, carried}
 use Rattle.houses.proofs.Moved.{Makable}
 
 pub here : (es : List Entry) (k i n b : ℕ) (d : Entry) → i < length es → getD es i d ≡ Opening n b → n ≡ k → opening (drop i es) k ≡ Some b

@@ -11,10 +11,10 @@ use Rattle.std.specs.Options.{isSome}
 use Rattle.std.specs.declared.option.Option.the-variants.{Some}
 use Rattle.std.specs.declared.result.Result.the-variants.{Ok}
 use Rattle.std.proofs.shelf.Lists.{at-drop-more}
-use Rattle.std.proofs.shelf.Tests.{eq-eqb, ne-eqb, or-parts, ltb-false, both-ways, cases-bool, eqb-true}
+use Rattle.std.proofs.shelf.Tests.{eq-eqb, ne-eqb, both-ways, cases-bool, eqb-true}
 use Rattle.std.proofs.shelf.Ways.{tells}
 use Rattle.houses.specs.declared.openings.Opening.{Opening}
-use Rattle.houses.specs.Balances.{held, Sound}
+use Rattle.houses.specs.Balances.{Sound}
 use Rattle.houses.specs.Openings.{opened, faulty, table-verdict, list-verdict}
 
 pub here : (os : List Opening) (k i : ℕ) (d : Opening) → i < length os → getD os i d .account ≡ k → opened (drop i os) k ≡ Some (getD os i d .balance)

@@ -1,6 +1,6 @@
 // Whether a transfer can be made, from what a house knows of its two accounts.
 ghost use mathlib.Core.Path.{_≡_};
-ghost use Prim.Native.Nat.{ℕ, _+_, _-_, _≤_};
+ghost use Prim.Native.Nat.{ℕ, _+_, _-_};
 ghost use Rattle.std.specs.declared.option.Option.{Option};
 ghost use Rattle.division.specs.Refusals.{answer, checked};
 ghost use Rattle.houses.specs.Refusals.{refusal};

@@ -44,11 +44,10 @@ fn division_reason(fault: DivisionFault) -> &'static str {
 fn contribution_reason(fault: ContributionFault) -> &'static str {
     match fault {
         ContributionFault::TooMany => "more than 64 securities or more than 128 trades",
-        ContributionFault::SecurityIsin(_) => "the ISIN of this security is malformed",
+        ContributionFault::Isin(_) => "the ISIN of this security or trade is malformed",
         ContributionFault::Terms(_) =>
             "the price, risk or rate of this security is out of its range",
         ContributionFault::ListedBefore(_) => "the ISIN of this security was listed before",
-        ContributionFault::TradeIsin(_) => "the ISIN of this trade is malformed",
         ContributionFault::Deal(_) => "the quantity or price of this trade is out of its range",
         ContributionFault::NotListed(_) => "the ISIN of this trade is not listed",
         ContributionFault::TooLarge(_) => "this trade comes to more than 100,000,000",

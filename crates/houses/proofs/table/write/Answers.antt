@@ -1,13 +1,11 @@
-use mathlib.Core.Path.{_≡_, sym, ap, subst, _∙_}
-use Prim.Native.Nat.{ℕ, _<_}
+use mathlib.Core.Path.{sym, ap, _∙_}
 use native.Mathlib.Omega.{arith}
 use borrow.Author.Count.{below-more}
-use lib.ListN.{length, getD, set}
+use lib.ListN.{getD, set}
 use Rattle.std.specs.Options.{isSome}
 use Rattle.std.proofs.shelf.Lists.{set-getD}
 use Rattle.std.proofs.shelf.Tests.{both-ways}
 use Rattle.houses.specs.declared.table.Account.{Account}
-use Rattle.houses.specs.Balances.{rewritten}
 use Rattle.houses.specs.Table.{kept}
 use Rattle.houses.proofs.Tables.{write-first, unkept}
 use Rattle.houses.proofs.table.write.Needs as need

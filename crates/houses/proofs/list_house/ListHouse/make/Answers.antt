@@ -2,12 +2,11 @@ use mathlib.Core.Path.{_≡_, refl, sym, ap, subst, _∙_}
 use mathlib.Core.List.{map, [], _∷_, _++_}
 use native.Mathlib.Omega.{arith}
 use lib.Dec.{ltb}
-use lib.ListN.{length, take, getD}
+use lib.ListN.{length, getD}
 use Rattle.std.specs.Of.Vec.{vec-items, vec-len}
 use Rattle.std.proofs.shelf.Lists.{nil-from-length, map-more, take-all}
 use Rattle.houses.specs.declared.openings.Opening.{Opening}
 use Rattle.houses.specs.Balances.{Sound, Same}
-use Rattle.houses.specs.Openings.{opened}
 use Rattle.houses.specs.Entries.{entry-of, booked, carried, Covered}
 use Rattle.houses.proofs.Opened.{list-passed, limits, sound-opened}
 use Rattle.houses.proofs.Moved.{to-same}

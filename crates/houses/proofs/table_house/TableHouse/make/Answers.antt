@@ -1,8 +1,8 @@
 use mathlib.Core.Path.{_≡_, refl, sym, ap, subst, _∙_}
 use mathlib.Core.List.{map, [], _∷_, _++_}
 use native.Mathlib.Omega.{arith}
-use lib.ListN.{take, getD}
-use Rattle.std.specs.Of.Vec.{vec-items, vec-len}
+use lib.ListN.{getD}
+use Rattle.std.specs.Of.Vec.{vec-items}
 use Rattle.std.proofs.shelf.Lists.{nil-from-length, map-more, take-all}
 use Rattle.houses.specs.declared.openings.Opening.{Opening}
 use Rattle.houses.specs.Balances.{Sound}
