@@ -72,3 +72,14 @@ pub clear-first : (c : Check) (cs : List Check) → Ok tt ≡ clear (c ∷ cs) �
 clear-first c cs e =
     elim (c .0) as (λ b. Ok tt ≡ cond b (Err (c .1)) (clear cs) → (b ≡ false) × (Ok tt ≡ clear cs))
     [ true ↦ λ h. (let z : _≡_ {A = ℕ} 0 1 = cc in absurd (omega arith)) | false ↦ λ h. (refl, h) ] e
+
+-- checks of two layers, one after the other, the first with a value of its own
+module _ {U V : Type 0} (cs ds : List Check) (k : U) (v : V) where
+  pub first-refuses : (r : Refusal) → Err r ≡ checked cs k → Err r ≡ checked (cs ++ ds) v
+  first-refuses r e = sym (checked-off cs ds v r (sym (checked-refused cs k (tt {0}) r e)))
+
+  pub second-refuses : (u : U) (r : Refusal) → Ok u ≡ checked cs k → Err r ≡ clear ds → Err r ≡ checked (cs ++ ds) v
+  second-refuses u r e f = checked-refused ds tt v r f ∙ sym (checked-on cs ds v (sym (checked-made cs k u (tt {0}) e .1)))
+
+  pub both-pass : (u : U) (w : Unit {0}) → Ok u ≡ checked cs k → Ok w ≡ clear ds → Ok v ≡ checked (cs ++ ds) v
+  both-pass u w e f = checked-made ds tt w v f .1 ∙ sym (checked-on cs ds v (sym (checked-made cs k u (tt {0}) e .1)))

@@ -1,0 +1,4 @@
+pub mod Places
+pub mod Shares
+pub mod Updates
+pub mod Credits

@@ -1,0 +1,5 @@
+pub mod Refusals
+pub mod Rows
+pub mod Standings
+pub mod States
+pub mod Books
