@@ -1,7 +1,7 @@
 // The calls about one member, and transfers that are not the fund's.
 ghost use mathlib.Core.Path.{_≡_};
 ghost use mathlib.Core.List.{[], _∷_};
-ghost use Prim.Native.Nat.{_<_};
+ghost use Prim.Native.Nat.{_+_, _<_};
 ghost use Rattle.std.specs.Of.Vec.{vec-items, vec-len};
 ghost use Rattle.std.specs.Options.{valueOr};
 ghost use Rattle.std.specs.Vec.{made, refused};
@@ -136,6 +136,7 @@ impl<C: House> Book<C> {
         ensures answer { λ r. ⌜ answer refusal r ≡ checked (regulate-checks (ready (now (self .entry) .house)) (view balances (now (self .entry))) code) (missing (view balances (now (self .entry))) code, excess (view balances (now (self .entry))) code) ⌝ }
         ensures state { λ r. ⌜ view balances (now (self .exit)) ≡ after r (regulated (view balances (now (self .entry))) code) (view balances (now (self .entry))) ⌝ }
         ensures ready { λ r. ⌜ refused r (λ _. ready (now (self .exit) .house) ≡ ready (now (self .entry) .house)) ⌝ }
+        ensures unpaid { λ _. ⌜ (missing (view balances (now (self .entry))) code + excess (view balances (now (self .entry))) code ≡ 0 → ready (now (self .exit) .house) ≡ ready (now (self .entry) .house)) ⌝ }
     {
         let i = self.regulates(code)?;
         let row = self.table.row(Some(i));
@@ -168,6 +169,7 @@ impl<C: House> Book<C> {
         ensures answer { λ r. ⌜ answer refusal r ≡ checked (leave-checks (ready (now (self .entry) .house)) (view balances (now (self .entry))) code) (share (row-of (vec-items (now (self .entry) .table .rows)) code)) ⌝ }
         ensures state { λ r. ⌜ view balances (now (self .exit)) ≡ after r (left (view balances (now (self .entry))) code) (view balances (now (self .entry))) ⌝ }
         ensures ready { λ r. ⌜ refused r (λ _. ready (now (self .exit) .house) ≡ ready (now (self .entry) .house)) ⌝ }
+        ensures unpaid { λ _. ⌜ (share (row-of (vec-items (now (self .entry) .table .rows)) code) ≡ 0 → ready (now (self .exit) .house) ≡ ready (now (self .entry) .house)) ⌝ }
     {
         let i = self.departs(code)?;
         let paid_out = self.table.share(i);

@@ -1,5 +1,6 @@
 // Payments between a member and the fund.
 ghost use mathlib.Core.Path.{_≡_};
+ghost use Prim.Native.Nat.{_+_};
 ghost use Rattle.std.specs.Vec.{refused};
 ghost use Rattle.division.specs.Refusals.{answer, after, clear};
 ghost use Rattle.houses.specs.Refusals.{refusal};
@@ -26,6 +27,7 @@ pub(crate) fn settle<C: House>(
     ensures answer { λ r. ⌜ answer refusal r ≡ clear (settle-checks (ready (now (house .entry))) (balances (now (house .entry))) code «paid_in» «paid_out») ⌝ }
     ensures balances { λ r. ⌜ balances (now (house .exit)) ≡ after r (settled (balances (now (house .entry))) code «paid_in» «paid_out») (balances (now (house .entry))) ⌝ }
     ensures ready { λ r. ⌜ refused r (λ _. ready (now (house .exit)) ≡ ready (now (house .entry))) ⌝ }
+    ensures unpaid { λ _. ⌜ («paid_in» + «paid_out» ≡ 0 → ready (now (house .exit)) ≡ ready (now (house .entry))) ⌝ }
 {
     if paid_in > 0 {
         house.transfer(code, FUND, paid_in)

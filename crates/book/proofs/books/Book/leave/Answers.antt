@@ -24,6 +24,7 @@ returns-in-Break-i g c =
       answer = first-refuses (departure s (c .args .code)) (settle-checks (g .C·House .ready (c .args .self .now .house)) (s .balances) (c .args .code) 0 all) (valueOr (place (s .rows) (c .args .code)) 0) all _ (c .in-Break-i .ensures tt .answer);
       state = refl;
       ready = refl;
+      unpaid = λ _. refl;
     })
 
 -- what the member has in the fund
@@ -48,4 +49,5 @@ returns g c =
       state = ap (with-rows s (vec-items (c .remove .last .self))) (c .in-Continue-settle .ensures tt .balances ∙ ap (settled (s .balances) (c .args .code) 0) m)
           ∙ ap (λ l. with-rows s l (settled (s .balances) (c .args .code) 0 all)) (c .remove .ensures .items ∙ taken-out (c .args .code) (s .rows) (c .in-Continue-i .i) (c .in-Continue-i .ensures tt .found .0));
       ready = tt;
+      unpaid = λ z. c .in-Continue-settle .ensures tt .unpaid (omega (arith, m, z));
     }

@@ -27,6 +27,7 @@ returns-in-Break-i g c =
       answer = first-refuses (regulation s (c .args .code)) (settle-checks (g .C·House .ready (c .args .self .now .house)) (s .balances) (c .args .code) (amounts .0) (amounts .1)) (valueOr (place (s .rows) (c .args .code)) 0) amounts _ (c .in-Break-i .ensures tt .answer);
       state = refl;
       ready = refl;
+      unpaid = λ _. refl;
     })
 
 abbrev based-on : ℕ → Row → Row
@@ -63,6 +64,7 @@ returns-in-Break-settle g c =
           ∙ ap (λ n. clear (settle-checks (g .C·House .ready (c .args .self .now .house)) (s .balances) (c .args .code) (missing s (c .args .code)) n)) o);
       state = ap (λ b. with-rows s (s .rows) b) (c .in-Break-settle .ensures tt .balances);
       ready = c .in-Break-settle .ensures tt .ready;
+      unpaid = λ _. c .in-Break-settle .ensures tt .ready;
     })
 
 pub ghost-self-2 : need.ghost-self-2
@@ -94,4 +96,5 @@ returns g c =
           ∙ ap (λ l. with-rows s l (settled (s .balances) (c .args .code) (missing s (c .args .code)) (excess s (c .args .code))))
           (replaced based-as-required (c .args .code) (s .rows) (c .in-Continue-i .i) row (based-on (c .row-row .result .required) row) (found .0) (c .row-mut .ensures .value) (ap (λ n. based-on n row) (ap (λ r. r .required) (lent g (need.at·returns g c .After-row-mut)))));
       ready = tt;
+      unpaid = λ z. c .in-Continue-settle .ensures tt .unpaid (omega (arith, i, o, z));
     }
