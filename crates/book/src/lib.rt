@@ -1,4 +1,6 @@
 // The book of the fund: its members' rows, above any cash house.
+#![tactic(auto)]
+
 mod answers;
 mod books;
 mod cases;

@@ -1,4 +1,6 @@
 // The calls of the book, played from tables over every house, and helpers that see every case closed.
+#![tactic(auto)]
+
 #[cfg(test)]
 mod asking;
 #[cfg(test)]

@@ -1,4 +1,6 @@
 // What a member must contribute, from the securities of the day and the member's trades.
+#![tactic(auto)]
+
 mod assess;
 mod assessments;
 mod checks;

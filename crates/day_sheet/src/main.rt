@@ -1,4 +1,6 @@
 // The program: runs the day sheet that stands on standard input.
+#![tactic(auto)]
+
 use sheet::run;
 use std::io;
 use std::io::Read;

@@ -1,4 +1,6 @@
 // Cash houses: what a house of accounts is, and the two that are kept, one over a table of balances and one over a list of entries.
+#![tactic(auto)]
+
 mod cash;
 mod comparing;
 mod entries;

@@ -1,4 +1,6 @@
 // The day sheet: what its lines say, and what running it prints.
+#![tactic(auto)]
+
 mod answers;
 mod asking;
 mod desks;

@@ -1,3 +1,5 @@
 // Day sheets run from beginning to end, and what they print.
+#![tactic(auto)]
+
 #[cfg(test)]
 mod tests;

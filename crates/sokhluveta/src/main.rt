@@ -1,4 +1,6 @@
 // The program: one task, named by its argument, over what stands on standard input.
+#![tactic(auto)]
+
 mod contribution_task;
 mod divide_task;
 mod trouble;
