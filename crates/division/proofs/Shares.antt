@@ -1,5 +1,5 @@
 -- The parts of a division are fair.
-use Rattle.std.proofs.Common.{◌≡◌, ℕ, zero, suc, ◌+◌, ◌-◌, ◌*◌, ◌/◌, ◌%◌, ◌<◌, ◌≤◌, List, map, length, get_or, take, sum, sym, refl, ap, ◌∙◌, add-zero, mul-le-mul_right, mod-lt, mul-le-mul_left, mul-zero, mul-add, mul-div_cancel, add-one, arith}
+use Rattle.std.proofs.Common.{◌≡◌, ℕ, zero, suc, ◌+◌, ◌-◌, ◌*◌, ◌/◌, ◌<◌, ◌≤◌, List, map, length, get_or, take, sum, sym, ap, ◌∙◌, add-zero, mul-le-mul_right, mod-lt, mul-le-mul_left, mul-zero, mul-add, mul-div_cancel, add-one, arith}
 use native.Mathlib.Nat.{zero-div, div-add-mod, mul-sub, lt_of_mul-lt-mul_left, sub_self}
 use Rattle.std.specs.List.{range_with_len}
 use Rattle.std.proofs.lemmas.List.{take_all}

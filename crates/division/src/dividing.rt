@@ -22,7 +22,7 @@ pub trait Weighted {
 
 fn total<T: Weighted>(things: &[T]) -> u128
     requires { length things.now ≤ 64 }
-    ensures { result ≡ sum (map weight things.now) }
+    ensures { result ≡ sum (map T.weight things.now) }
 {
     let mut sum: u128 = 0;
     for thing in things {
@@ -41,9 +41,9 @@ fn due(amount: u64, weights: u64, all: u64) -> u64
 
 fn fill<T: Weighted>(amount: u64, all: u64, things: &[T], parts: &mut [u64])
     requires limits { (amount ≤ 4000000000) × ((all ≤ 4000000000) × (0 < all)) }
-    requires all { all ≡ sum (map weight things.now) }
+    requires all { all ≡ sum (map T.weight things.now) }
     requires long { length parts.old ≡ length things.now }
-    ensures { parts.new ≡ parts_of amount (map weight things.now) }
+    ensures { parts.new ≡ parts_of amount (map T.weight things.now) }
 {
     let mut weights: u64 = 0;
     let mut paid: u64 = 0;
@@ -58,9 +58,9 @@ fn fill<T: Weighted>(amount: u64, all: u64, things: &[T], parts: &mut [u64])
 
 // Divides the amount over the things by weight into the list of parts, or refuses and leaves the list as it was.
 pub fn divide<T: Weighted>(amount: u64, things: &[T], parts: &mut [u64]) -> Result<(), Fault>
-    ensures verdict { answer refusal result ≡ verdict amount (map weight things.now) (length parts.old) }
-    ensures parts { parts.new ≡ after result (parts_of amount (map weight things.now)) parts.old }
-    ensures fair { OnOk result (Fair amount (map weight things.now) parts.new) }
+    ensures verdict { answer refusal result ≡ verdict amount (map T.weight things.now) (length parts.old) }
+    ensures parts { parts.new ≡ after result (parts_of amount (map T.weight things.now)) parts.old }
+    ensures fair { OnOk result (Fair amount (map T.weight things.now) parts.new) }
 {
     if things.len() > THINGS || parts.len() != things.len() {
         return Err(Fault::Things);

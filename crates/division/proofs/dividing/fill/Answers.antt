@@ -19,8 +19,8 @@ with_own g c =
 limited : (g : given.Over) (c : After-weight g) → c.loop-i.weights + c.weight.result ≤ 4000000000
 limited g c = omega (arith, with_own g c, some (ws g c) (c.loop-i.i + 1), c.requires.all, c.requires.limits)
 
-pub overflow-add-reached : goal.overflow-add-reached
-overflow-add-reached g c = omega (arith, limited g c)
+pub overflow_add-reached : goal.overflow_add-reached
+overflow_add-reached g c = omega (arith, limited g c)
 
 pub due-requires : goal.due-requires
 due-requires g c = let l = limited g c in (omega arith, (omega arith, omega arith))
@@ -29,11 +29,11 @@ due-requires g c = let l = limited g c in (omega arith, (omega arith, omega arit
 paid_before : (g : given.Over) (c : After-weight g) → c.loop-i.paid ≤ c.args.amount * (c.loop-i.weights + c.weight.result) / c.args.all
 paid_before g c = omega (arith, c.loop-i.invariant.1, grows c.args.amount c.loop-i.weights c.weight.result c.args.all c.requires.limits.1.1)
 
-pub overflow-sub-part : goal.overflow-sub-part
-overflow-sub-part g c = omega (arith, c.due.ensures, paid_before g (goal.at.overflow-sub-part g c).After-weight)
+pub overflow_sub-part : goal.overflow_sub-part
+overflow_sub-part g c = omega (arith, c.due.ensures, paid_before g (goal.at.overflow_sub-part g c).After-weight)
 
-pub overflow-add-paid : goal.overflow-add-paid
-overflow-add-paid g c = omega (arith, c.due.type-inv, paid_before g (goal.at.overflow-add-paid g c).After-weight)
+pub overflow_add-paid : goal.overflow_add-paid
+overflow_add-paid g c = omega (arith, c.due.type_inv, paid_before g (goal.at.overflow_add-paid g c).After-weight)
 
 pub loop-i-preserved : goal.loop-i-preserved
 loop-i-preserved g c =
