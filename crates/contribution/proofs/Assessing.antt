@@ -1,5 +1,5 @@
 -- From checked securities and tallied trades to the steps.
-use Rattle.std.proofs.Common.{◌≡◌, ℕ, zero, suc, ◌+◌, ◌-◌, ◌*◌, ◌<◌, ◌≤◌, Bool, true, false, cond, not, ◌||◌, ltb, ◌⊎◌, List, [], ◌∷◌, ◌++◌, map, length, get_or, take, replicate, ℤ, pos, ◌-ℤ◌, ◌*ℤ◌, is_some, Some, None, Ok, Err, sum_by, sym, refl, ap, ◌∙◌, inl, inr, zero-add, arith}
+use Rattle.std.proofs.Common.{◌≡◌, ℕ, zero, suc, ◌+◌, ◌-◌, ◌*◌, ◌<◌, ◌≤◌, Bool, true, false, cond, not, ◌||◌, ltb, List, [], ◌∷◌, ◌++◌, map, length, get_or, take, replicate, pos, ◌-ℤ◌, ◌*ℤ◌, is_some, Some, Ok, Err, sum_by, sym, refl, ap, ◌∙◌, inl, inr, zero-add, arith}
 use mathlib.Core.Path.{fun_ext}
 use lib.ListN.{length-replicate}
 use Rattle.std.specs.Str.{bytes_eq}
@@ -8,7 +8,7 @@ use Rattle.std.proofs.lemmas.List.Sums.{sum_by-cons}
 use Rattle.std.proofs.lemmas.Int.{ints}
 use Rattle.std.proofs.lemmas.Bool.{lt-ltb, le-ltb, cases_lt, cases_Bool, cond-true, cond-false, both_ways}
 use Rattle.division.specs.declared.refusals.Refusal.{Refusal}
-use Rattle.division.specs.Refusals.{Check, checked, clear}
+use Rattle.division.specs.Refusals.{checked, clear}
 use Rattle.division.proofs.Checks.{checked_on, checked_off, clear_at}
 use Rattle.contribution.specs.declared.terms.Security.{Security}
 use Rattle.contribution.specs.declared.terms.Trade.{Trade}
@@ -17,7 +17,7 @@ use Rattle.contribution.specs.declared.assessments.Assessment.{Assessment}
 use Rattle.contribution.specs.Refusals.{by_contribution}
 use Rattle.contribution.specs.Isins.{well_formed, place_from, place}
 use Rattle.contribution.specs.Checks.{priced, security_checks, securities_checks, trades_checks}
-use Rattle.contribution.specs.Steps.{net, value, gain, bought, sold, paid, received, provisional, calculated, rounded_up, above_zero, sumℤ, renewed}
+use Rattle.contribution.specs.Steps.{value, gain, bought, sold, paid, received, provisional, calculated, rounded_up, above_zero, sumℤ, renewed}
 use Rattle.contribution.specs.Positions.{flat, position, at_risk, up, down, sum_pairs, Held, Distinct}
 use Rattle.contribution.specs.Contribution.{checks, positions, assessment}
 use Rattle.contribution.proofs.Walks.{no_security}

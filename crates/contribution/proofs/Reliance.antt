@@ -1,5 +1,5 @@
 -- What an accepted assessment keeps to.
-use Rattle.std.proofs.Common.{◌≡◌, ℕ, ◌+◌, ◌-◌, ◌*◌, ◌<◌, ◌≤◌, max, Bool, true, false, cond, not, ◌||◌, ltb, leb, ◌⊎◌, List, [], ◌∷◌, ◌++◌, length, ℤ, pos, ◌-ℤ◌, ◌*ℤ◌, nat_abs, is_some, Ok, Err, sum_by, sym, refl, ap, ◌∙◌, inl, inr, arith}
+use Rattle.std.proofs.Common.{◌≡◌, ℕ, ◌+◌, ◌-◌, ◌*◌, ◌<◌, ◌≤◌, Bool, true, false, not, ◌||◌, ltb, leb, List, [], ◌∷◌, ◌++◌, length, pos, ◌-ℤ◌, ◌*ℤ◌, nat_abs, is_some, Ok, sum_by, sym, refl, ap, ◌∙◌, inl, inr, arith}
 use mathlib.Core.Path.{fun_ext}
 use Rattle.std.specs.List.Sorted.{IsPermutation}
 use Rattle.std.specs.List.{AllByRecursion as All}
@@ -8,8 +8,7 @@ use Rattle.std.proofs.lemmas.List.Sorted.{length_permutation, sum_by-IsPermutati
 use Rattle.std.proofs.ByRecursion.{all_shuffled}
 use Rattle.std.proofs.lemmas.List.Sums.{sum_by-cons}
 use Rattle.std.proofs.lemmas.Bool.{cases_Bool, cond-true, cond-false, ltb-false, leb-false}
-use Rattle.std.proofs.lemmas.Bool.Decides.{nat_tests}
-use Rattle.division.specs.Refusals.{Check, checked, clear, each_from}
+use Rattle.division.specs.Refusals.{clear, each_from}
 use Rattle.division.proofs.Checks.{checked_made, checked_on, clear_first, clear_both}
 use Rattle.contribution.specs.declared.terms.Security.{Security}
 use Rattle.contribution.specs.declared.terms.Side.TheVariants.{Bought, Sold}
@@ -19,9 +18,9 @@ use Rattle.contribution.specs.declared.assessments.Assessment.{Assessment}
 use Rattle.contribution.specs.Refusals.{by_contribution}
 use Rattle.contribution.specs.Isins.{well_formed, place}
 use Rattle.contribution.specs.Checks.{dealt, price_at, trade_checks, trades_checks, securities_checks}
-use Rattle.contribution.specs.Steps.{in_security, bought, sold, paid, received, net, value, gain, sumℤ, above_zero, rounded_up, provisional, calculated, renewed, distance, minimum}
+use Rattle.contribution.specs.Steps.{in_security, bought, sold, paid, received, net, value, gain, sumℤ, above_zero, rounded_up, provisional, calculated, renewed, distance}
 use Rattle.contribution.specs.Positions.{position, at_risk, up, down}
-use Rattle.contribution.specs.Contribution.{checks, positions, assessment, verdict}
+use Rattle.contribution.specs.Contribution.{checks, assessment, verdict}
 use Rattle.contribution.specs.Laws.{on_side, Sound}
 use Rattle.contribution.proofs.Assessing.{accepted, provisional_is}
 

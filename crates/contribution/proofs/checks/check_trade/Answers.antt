@@ -15,4 +15,4 @@ pub returns : goal.returns
 returns c =
     let e : place c.args.securities.now c.args.trade.now.isin.bytes ≡ Some c.in-Some.k = sym c.in-Some.ensures.place in
     let p = get_or-map (λ s. s.price) c.args.securities.now c.in-Some.k no_security 0 c.in-Some.ensures.bound in
-    record { answer = rw (e, p) (grind (arith, nat_tests)); found = (e, c.in-Some.ensures.bound, sym c.if-not-is-dealt.ensures) }
+    record { answer = rw (e, p) (grind (arith, nat_tests)); found = (e, c.in-Some.ensures.bound, sym c.if-not-is_dealt.ensures) }

@@ -10,7 +10,7 @@ loop-i-preserved c =
     let ss = c.args.securities.now in
     let ps = c.args.positions.now in
     let i = c.loop-i.i in (
-      turn at_risk ss ps i _ _ _ _ _ c.loop-i-test.true (omega arith) c.at-risk-risk.ensures.value c.loop-i.invariant.0,
+      turn at_risk ss ps i _ _ _ _ _ c.loop-i-test.true (omega arith) c.at_risk-risk.ensures.value c.loop-i.invariant.0,
       turn up ss ps i _ _ _ _ _ c.loop-i-test.true (omega arith) c.settled-up.ensures.value c.loop-i.invariant.1,
       turn down ss ps i _ _ _ _ _ c.loop-i-test.true (omega arith) c.settled-down.ensures.value c.loop-i.invariant.2,
       omega arith,

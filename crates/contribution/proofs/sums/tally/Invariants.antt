@@ -1,4 +1,4 @@
-use Rattle.std.proofs.Common.{◌≡◌, ℕ, ◌<◌, ◌≤◌, length, get_or, take, drop}
+use Rattle.std.proofs.Common.{◌≡◌, ℕ, ◌<◌, length, get_or, take, drop}
 use Rattle.division.specs.Refusals.{clear, each_from}
 use Rattle.contribution.specs.Checks.{trade_checks, trades_checks}
 use Rattle.contribution.specs.Positions.{flat, Held, Few}
