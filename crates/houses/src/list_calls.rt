@@ -5,7 +5,6 @@ ghost use Rattle.houses.specs.Refusals.{refusal};
 ghost use Rattle.houses.specs.Balances.{verdict, moved, money};
 ghost use Rattle.houses.specs.Openings.{opened, list_verdict};
 ghost use Rattle.houses.specs.Entries.{entry_of, booked, carried};
-ghost use Rattle.std.proofs.Common.{rules, arith};
 
 use crate::cash::House;
 use crate::entries::{Entry, balance_from};
@@ -66,7 +65,7 @@ impl House for ListHouse {
 
     ghost ready = { λ x. nat_lt (vec_len x.entries) x.room };
 
-    ghost sound = { first_of (Prim.search rules, Prim.grind (arith, Self.row.coded.inj)) };
+    ghost sound = { λ x. x.sound };
 
     fn transfer(&mut self, from: u64, to: u64, amount: u64) -> Result<(), Fault>
         ensures verdict { answer refusal result ≡ verdict (nat_lt (vec_len self.old.entries) self.old.room) (booked self.old.entries.items) from to amount }

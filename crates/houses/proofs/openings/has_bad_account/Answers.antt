@@ -5,7 +5,7 @@ use Rattle.houses.specs.declared.openings.Opening.{Opening}
 use Rattle.houses.specs.Openings.{opened, faulty}
 use Rattle.houses.proofs.Opened.{faulty_more}
 use Rattle.houses.proofs.openings.has_bad_account.Goals as goal
-use Rattle.houses.proofs.openings.has_bad_account.Goals.{After-find-after, then-opening-gt-LAST-via-then-opening-gt-LAST, then-opening-gt-LAST-via-else-opening-gt-LAST+then-opening-gt-BALANCE, then-opening-gt-LAST-via-else-opening-gt-LAST+else-opening-gt-BALANCE+then-is-some}
+use Rattle.houses.proofs.openings.has_bad_account.Goals.{After-find-after, then-opening-gt-LAST-via-then-opening-gt-LAST, then-opening-gt-LAST-via-else-opening-gt-LAST+then-opening-gt-BALANCE, then-opening-gt-LAST-via-else-opening-gt-LAST+else-opening-gt-BALANCE+then-is_some}
 
 abbrev none : Opening
 none = record { account = 0; balance = 0 }
@@ -21,7 +21,7 @@ returns-then-opening-gt-LAST c =
     elim c.then-opening-gt-LAST.branch [
       | then-opening-gt-LAST-via-then-opening-gt-LAST w ↦ grind (arith, nat_tests, e, c.loop-i.invariant)
       | then-opening-gt-LAST-via-else-opening-gt-LAST+then-opening-gt-BALANCE w ↦ grind (arith, nat_tests, e, c.loop-i.invariant)
-      | then-opening-gt-LAST-via-else-opening-gt-LAST+else-opening-gt-BALANCE+then-is-some w ↦ grind (arith, nat_tests, e, f, c.loop-i.invariant)
+      | then-opening-gt-LAST-via-else-opening-gt-LAST+else-opening-gt-BALANCE+then-is_some w ↦ grind (arith, nat_tests, e, f, c.loop-i.invariant)
     ]
 
 pub loop-i-preserved : goal.loop-i-preserved

@@ -15,42 +15,32 @@ none = record { account = 0; balance = 0 }
 pub loop-opening-init : goal.loop-opening-init
 loop-opening-init c = (nil_from_length (vec_items c.args.list) (omega (arith, c.args.list.ok.0, c.requires.empty)), c.requires.empty, refl)
 
-pub overflow-cast-opening : goal.overflow-cast-opening
-overflow-cast-opening c = omega (arith, limits c.args.openings.now c.loop-opening.opening-index none (list_passed c.args.openings.now c.args.room c.requires.checked).2 c.loop-opening-test.true)
+pub overflow_cast-opening : goal.overflow_cast-opening
+overflow_cast-opening c = omega (arith, limits c.args.openings.now c.loop-opening.opening-index none (list_passed c.args.openings.now c.args.room c.requires.checked).2 c.loop-opening-test.true)
 
 pub loop-opening-preserved : goal.loop-opening-preserved
 loop-opening-preserved c =
     let i = c.loop-opening.opening-index in (
-      c.push-reserved.ensures.items ∙ ap (λ xs. xs ++ entry_of (get_or c.args.openings.now i none) ∷ []) c.loop-opening.invariant.0 ∙ sym (map_more entry_of c.args.openings.now i none c.loop-opening-test.true),
-      omega (arith, c.push-reserved.ensures.len, c.loop-opening.invariant.1),
-      c.push-reserved.ensures.capacity ∙ c.loop-opening.invariant.2,
+      c.push_reserved.ensures.items ∙ ap (λ xs. xs ++ entry_of (get_or c.args.openings.now i none) ∷ []) c.loop-opening.invariant.0 ∙ sym (map_more entry_of c.args.openings.now i none c.loop-opening-test.true),
+      omega (arith, c.push_reserved.ensures.len, c.loop-opening.invariant.1),
+      c.push_reserved.ensures.capacity ∙ c.loop-opening.invariant.2,
     )
 
 made : (c : After-loop-opening) → vec_items c.loop-opening.entries ≡ map entry_of c.args.openings.now
 made c = c.loop-opening.invariant.0 ∙ ap (map entry_of) (take_all c.loop-opening.opening-index c.args.openings.now c.loop-opening-test.false)
 
-pub invariant-of-result : goal.invariant-of-result
-invariant-of-result c =
+pub invariant_of-result : goal.invariant_of-result
+invariant_of-result c =
     let os = c.args.openings.now in
-    let p = list_passed os c.args.room c.requires.checked in (
-      p.0,
-      (
-        omega (arith, c.loop-opening.invariant.1, p.1),
-        (
-          omega (arith, c.loop-opening.invariant.2, c.requires.room),
-          (
-            subst Covered (sym (made c)) (covered_opened os),
-            (
-              subst (λ es. Sound (booked es)) (sym (made c)) (subst Sound (sym (booked_opened os)) (sound_opened os p.2)),
-              (
-                subst (λ es. Same (booked es) (carried es)) (sym (made c)) (to_same _ _ (in_order_opened os)),
-                tt,
-              ),
-            ),
-          ),
-        ),
-      ),
-    )
+    let p = list_passed os c.args.room c.requires.checked in
+    record {
+      few = p.0;
+      within = omega (arith, c.loop-opening.invariant.1, p.1);
+      reserved = omega (arith, c.loop-opening.invariant.2, c.requires.room);
+      covered = subst Covered (sym (made c)) (covered_opened os);
+      sound = subst (λ es. Sound (booked es)) (sym (made c)) (subst Sound (sym (booked_opened os)) (sound_opened os p.2));
+      ordered = subst (λ es. Same (booked es) (carried es)) (sym (made c)) (to_same _ _ (in_order_opened os));
+    }
 
 pub returns : goal.returns
 returns c =
