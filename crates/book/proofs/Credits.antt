@@ -9,12 +9,12 @@ use Rattle.division.specs.Division.{verdict, parts_of}
 use Rattle.division.proofs.Shares.{fair}
 use Rattle.book.specs.declared.rows.Row.{Row}
 use Rattle.book.specs.declared.rows.OpenCase.{OpenCase as Open}
-use Rattle.book.specs.Rows.{share, shares, charges, credit, credited}
+use Rattle.book.specs.Rows.{share, shares, charges, by_parts, credited}
 use Rattle.book.specs.declared.groups.Basis.{Basis}
 use Rattle.book.specs.declared.groups.Basis.TheVariants.{Base}
 use Rattle.book.specs.Groups.{weights}
 use Rattle.book.specs.States.{State, earning, charged_of, unrecovered, more_recovered, recovery}
-use Rattle.book.proofs.Parts.{kept_by_parts, sum_by_parts, none_in_sum}
+use Rattle.book.proofs.Parts.{credit, credited_by_parts, kept_by_parts, sum_by_parts, none_in_sum}
 
 -- one more thing with the number of one more row
 pub weighed : {X Y : Type 0} (f : X → ℕ) (g : Y → ℕ) (out : List X) (rows : List Y) (i : ℕ) (x : X) (d : Y) → i < length out → i < length rows → f x ≡ g (get_or rows i d) →
@@ -24,11 +24,11 @@ weighed f g out rows i x d h k e inv =
 
 -- the parts go to the shares
 shares_credited : (rows : List Row) (ps : List ℕ) → length ps ≡ length rows → shares (credited rows ps) ≡ shares rows + sum ps
-shares_credited rows ps e = omega (arith, sum_by_parts credit share (λ _. 0) (λ n. n) rows ps e (λ k h. omega arith), none_in_sum ps)
+shares_credited rows ps e = omega (arith, ap shares (credited_by_parts rows ps), sum_by_parts credit share (λ _. 0) (λ n. n) rows ps e (λ k h. omega arith), none_in_sum ps)
 
 -- and not to what is charged
 pub charges_credited : (rows : List Row) (ps : List ℕ) → charges (credited rows ps) ≡ charges rows
-charges_credited rows ps = sym (sum-map (λ r. r.charged) (credited rows ps)) ∙ ap sum (kept_by_parts credit (λ r. r.charged) (λ r p. refl) rows ps) ∙ sum-map (λ r. r.charged) rows
+charges_credited rows ps = ap charges (credited_by_parts rows ps) ∙ sym (sum-map (λ r. r.charged) (by_parts credit rows ps)) ∙ ap sum (kept_by_parts credit (λ r. r.charged) (λ r p. refl) rows ps) ∙ sum-map (λ r. r.charged) rows
 
 -- a division that no check refuses
 pub divisible : (a n : ℕ) (ws : List ℕ) → length ws ≤ 64 → n ≡ length ws → sum ws ≤ 4000000000 → a ≤ 4000000000 → 0 < sum ws → verdict a ws n ≡ Ok tt

@@ -1,22 +1,21 @@
 -- What a member owes and what its base is, from one call to the next.
-use Rattle.std.proofs.Common.{◌≡◌, ℕ, ◌+◌, ◌-◌, ◌≤◌, Bool, true, false, cond, eqb, List, [], ◌∷◌, ◌++◌, map, is_some, Ok, sym, refl, ap, ◌∙◌, inl, inr, add-zero, arith}
+use Rattle.std.proofs.Common.{◌≡◌, ℕ, ◌+◌, Bool, true, false, eqb, List, [], ◌∷◌, ◌++◌, map, is_some, Ok, sym, refl, ap, ◌∙◌, inl, inr, add-zero, arith}
 use Rattle.std.proofs.lemmas.Bool.{cond-true, cond-false, cases_Bool, true≢false, false≢true}
 use Rattle.std.proofs.lemmas.Bool.Decides.{nat_tests}
 use Rattle.division.specs.Refusals.{clear}
 use Rattle.contribution.specs.declared.terms.Security.{Security}
 use Rattle.contribution.specs.declared.terms.Trade.{Trade}
-use Rattle.contribution.specs.Steps.{minimum, calculated, renewed}
-use Rattle.book.specs.declared.rows.Row.{Row}
+use Rattle.contribution.specs.Steps.{calculated, renewed}
 use Rattle.book.specs.declared.standings.Event.TheVariants as event
 use Rattle.book.specs.Rows.{place, row_of, changed, without, credited, required_as, based_as_required, standing_after, case_closed}
 use Rattle.book.specs.States.{State, newcomer, updated_to}
-use Rattle.book.specs.Calls.{Call, Join, Update, Regulate, Income, OpenCase, Use, Recover, Close, Leave, OtherTransfer, checks, value, effect}
+use Rattle.book.specs.Calls.{Call, Join, Update, Regulate, OpenCase, Use, Close, Leave, checks, effect}
 use Rattle.book.specs.Laws.{Unique, owes_by, pays_up, charge}
-use Rattle.book.proofs.Membership.{Each, has_changed, row_changed, row_unchanged, has_without, gone, row_without, has_more, row_more, row_new, has_each, row_each}
+use Rattle.book.proofs.Membership.{has_changed, row_changed, row_unchanged, has_without, gone, row_without, has_more, row_more, row_new, has_each, row_each}
 use Rattle.book.specs.Groups.{used_rows}
 use Rattle.book.proofs.Defaults.{Charged, each_used}
 use Rattle.book.proofs.Order.{Credited, each_credited, Closed, each_closed}
-use Rattle.book.proofs.Accepted.{join_tells, update_tells, regulate_tells, open_tells, leave_tells}
+use Rattle.book.proofs.Accepted.{join_tells, update_tells, regulate_tells}
 
 -- an accepted call and a member m that has a row after it: x is what it owed before, if it had a row
 pub record Due (m : ℕ) (k : Call) (s : State) : Type 0 where

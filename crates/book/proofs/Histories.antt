@@ -1,32 +1,31 @@
 -- What holds after a history of calls holds after one call more.
-use Rattle.std.proofs.Common.{◌≡◌, ℕ, ◌+◌, ◌-◌, ◌≤◌, Bool, true, false, cond, not, ◌&&◌, eqb, List, [], ◌∷◌, ◌++◌, map, is_some as option_is_some, is_ok, Some, None, Ok, Err, Option, Result, sym, refl, ap, ◌∙◌, subst, inl, inr, add-zero, arith}
+use Rattle.std.proofs.Common.{◌≡◌, ℕ, ◌+◌, Bool, true, false, cond, not, ◌&&◌, eqb, List, [], ◌∷◌, is_some, is_ok, Some, None, Ok, Err, Option, Result, sym, refl, ap, ◌∙◌, subst, inl, inr, add-zero, arith}
 use Rattle.std.proofs.lemmas.Bool.Decides.{nat_tests}
 use Rattle.houses.specs.Balances.{held as held_in}
 use Rattle.houses.specs.Refusals.{by_house}
 use Rattle.book.specs.Refusals.{by_book}
-use Rattle.std.proofs.lemmas.Bool.{cond-true, cond-false, cases_Bool, true≢false, false≢true}
+use Rattle.std.proofs.lemmas.Bool.{cases_Bool, false≢true}
 use Rattle.division.specs.declared.refusals.Refusal.{Refusal}
 use Rattle.division.specs.Refusals.{clear, checked, after}
 use Rattle.division.proofs.Checks.{checked_made, checked_refused}
-use Rattle.book.specs.declared.rows.Row.{Row}
 use Rattle.book.specs.Rows.{shares, place, row_of, required_as, based_as_required}
 use Rattle.book.specs.States.{State, opening_checks, opened_over, updated_to}
 use Rattle.book.specs.Calls.{Call, Answer, Join, Update, Regulate, Income, OpenCase, Use, Recover, Close, Leave, OtherTransfer, checks, value, effect, said, moves}
-use Rattle.book.specs.Histories.{Turn, turn, book_after, filed, Kept, Leads}
+use Rattle.book.specs.Histories.{Turn, turn, book_after, filed, Kept}
 use Rattle.book.specs.Laws.{came_in, went_out, if_accepted, accused, owes_by, pays_up, charge, paid_in, paid_out, defaulter, owes, owed, charges_since, Lawful, GoesOn}
 use Rattle.book.proofs.Money.{Backed, Flow, flow_join, flow_update, flow_regulate, flow_income, flow_open, flow_use, flow_recover, flow_close, flow_leave, flow_other}
-use Rattle.book.proofs.Order.{Ordered, is_some, order_changed, order_credited, order_join, order_open, order_use, order_close, order_leave, recovered_some}
+use Rattle.book.proofs.Order.{Ordered, open_is_some, order_changed, order_credited, order_join, order_open, order_use, order_close, order_leave, recovered_some}
 use Rattle.book.proofs.Dues.{Due, due_join, due_update, due_regulate, due_leave, due_open, due_credited, due_closed, due_used}
 use Rattle.book.proofs.Uses.{used_by}
-use Rattle.book.proofs.Accepted.{update_tells, regulate_tells, recover_tells, use_tells}
+use Rattle.book.proofs.Accepted.{update_tells, regulate_tells, use_tells}
 
 -- a book s with the last defaulter d, what was paid in and out, and of each member what it owes, what it owed when it last paid up, and the charges on its base since
 pub record Holds (s : State) (d got gone : ℕ) (owes owed charges : ℕ → ℕ) : Type 0 where
   pub ordered : Ordered d s
   pub backed : Backed s
   pub flows : shares s.rows + gone ≡ got
-  pub required : (m : ℕ) → option_is_some (place s.rows m) ≡ true → (row_of s.rows m).required ≡ owes m
-  pub bases : (m : ℕ) → option_is_some (place s.rows m) ≡ true → (row_of s.rows m).base + charges m ≡ owed m
+  pub required : (m : ℕ) → is_some (place s.rows m) ≡ true → (row_of s.rows m).required ≡ owes m
+  pub bases : (m : ℕ) → is_some (place s.rows m) ≡ true → (row_of s.rows m).base + charges m ≡ owed m
 
 -- a base that stays is not charged
 uncharged : (k : Call) (n : ℕ) → charge k n n ≡ 0
@@ -45,7 +44,7 @@ uncharged (OtherTransfer from to a) n = refl
 pub record Step (k : Call) (d : ℕ) (s : State) : Type 0 where
   pub ordered : Ordered (accused k d) (effect k s)
   pub flow : Flow k s
-  pub due : (m : ℕ) → option_is_some (place (effect k s).rows m) ≡ true → Due m k s
+  pub due : (m : ℕ) → is_some (place (effect k s).rows m) ≡ true → Due m k s
 
 step : (k : Call) (ready : Bool) (d : ℕ) (s : State) → Ok tt ≡ clear (checks k ready s) → Ordered d s → Backed s → Step k d s
 step (Join code) ready d s e was b = record { ordered = order_join d s was ready code e; flow = flow_join ready s b code e; due = λ m h. due_join m s ready code e h }
@@ -85,7 +84,7 @@ step (OtherTransfer from to n) ready d s e was b =
     }
 
 -- the fund's account of a house over which a book can be opened
-empty : (b : Option ℕ) → Ok tt ≡ clear ((not (option_is_some b), by_house 52) ∷ (not (eqb (held_in b) 0), by_book 43) ∷ []) → b ≡ Some 0
+empty : (b : Option ℕ) → Ok tt ≡ clear ((not (is_some b), by_house 52) ∷ (not (eqb (held_in b) 0), by_book 43) ∷ []) → b ≡ Some 0
 empty None e = let z : ◌≡◌ {A = ℕ} 0 1 = cc in absurd (omega arith)
 empty (Some n) e = ap Some (grind (arith, nat_tests))
 
@@ -150,7 +149,7 @@ lawful o h e =
           let then = (held o earlier e).ordered in
           let made = checked_made (checks (Use n amount) ready s) (value (Use n amount) s) a (tt {0}) (sym accepted) in
           let t = use_tells ready s n amount made.1 in
-          let is = is_some s.case n t.0 in
+          let is = open_is_some s.case n t.0 in
           let rows = ap (λ r. (after r (effect (Use n amount) s) s).rows) accepted in
           rw (made.0, rows) (used_by (defaulter o earlier) amount s.rows (rw is at then.marked) (then.present is) t.1));
       bases = now.bases;

@@ -1,10 +1,10 @@
 -- Whose rows a book has, and what a change of the rows does to that.
-use Rattle.std.proofs.Common.{◌≡◌, ℕ, suc, ◌+◌, ◌≤◌, Bool, true, false, cond, not, ◌&&◌, ◌||◌, eqb, ◌⊎◌, List, [], ◌∷◌, ◌++◌, map, length, get_or, is_some, Some, None, sum_by, Option, sym, refl, ap, ◌∙◌, inl, inr, add-zero, arith}
+use Rattle.std.proofs.Common.{◌≡◌, ℕ, suc, ◌+◌, true, false, cond, eqb, ◌⊎◌, List, [], ◌∷◌, ◌++◌, map, is_some, Some, None, sum_by, sym, refl, ap, ◌∙◌, inl, inr, add-zero, arith}
 use Rattle.std.proofs.lemmas.List.Sums.{sum_by-cons}
 use Rattle.std.proofs.lemmas.Bool.{cond-true, cond-false, cases_Bool, eq-eqb, true≢false, false≢true}
 use Rattle.std.proofs.lemmas.Bool.Decides.{nat_tests}
 use Rattle.book.specs.declared.rows.Row.{Row}
-use Rattle.book.specs.Rows.{place_from, place, row_at, row_of, nobody, changed, without, by_parts}
+use Rattle.book.specs.Rows.{place_from, place, row_of, changed, without, by_parts}
 use Rattle.book.specs.Laws.{Unique}
 
 -- where a row stands does not depend on where the count begins

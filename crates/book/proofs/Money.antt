@@ -1,7 +1,7 @@
 -- What an accepted call does to the shares and to the fund's account.
-use Rattle.std.proofs.Common.{◌≡◌, ℕ, ◌+◌, ◌-◌, ◌<◌, ◌≤◌, Bool, true, false, cond, eqb, ltb, List, [], ◌∷◌, ◌++◌, map, is_some, Some, None, Ok, sum_by, sum, Option, sym, refl, ap, ◌∙◌, inl, inr, arith}
+use Rattle.std.proofs.Common.{◌≡◌, ℕ, ◌+◌, ◌-◌, ◌<◌, ◌≤◌, Bool, false, eqb, ltb, List, Some, None, Ok, sum, Option, sym, refl, ap, ◌∙◌, inl, inr, arith}
 use Rattle.std.proofs.lemmas.List.Sums.{sum_by_push, sum-map}
-use Rattle.std.proofs.lemmas.Bool.{cases_Bool, cond-true, cond-false}
+use Rattle.std.proofs.lemmas.Bool.{cases_Bool, cond-false}
 use Rattle.std.proofs.lemmas.Bool.Decides.{nat_tests}
 use Rattle.division.specs.Refusals.{clear}
 use Rattle.contribution.specs.declared.terms.Security.{Security}
@@ -13,8 +13,8 @@ use Rattle.book.specs.declared.rows.OpenCase.{OpenCase as Open}
 use Rattle.book.specs.declared.groups.Basis.TheVariants.{Base, Charged}
 use Rattle.book.specs.declared.standings.Event.TheVariants as event
 use Rattle.book.specs.declared.groups.Group.TheVariants.{OwnBase, OwnReserve, OtherBases, OtherReserves}
-use Rattle.book.specs.Groups.{weights, has, earlier, pays}
-use Rattle.book.specs.Rows.{share, shares, charges, place, row_of, required_as, based_as_required, standing_after}
+use Rattle.book.specs.Groups.{pays}
+use Rattle.book.specs.Rows.{share, shares, charges, row_of, required_as, based_as_required, standing_after}
 use Rattle.book.specs.States.{State, newcomer, settled, missing, excess, updated_to, charged_of, unrecovered}
 use Rattle.book.specs.Calls.{Call, Join, Update, Regulate, Income, OpenCase, Use, Recover, Close, Leave, OtherTransfer, checks, value, effect}
 use Rattle.book.specs.Laws.{came_in, went_out}

@@ -1,5 +1,5 @@
 -- The ten calls on a book: what each checks, answers and leaves.
-use Rattle.std.specs.Prelude.{ℕ, ◌+◌, Bool, true, false, List, [], Ok, Err, Result, nat_lt}
+use Rattle.std.specs.Prelude.{ℕ, ◌+◌, Bool, true, false, List, Ok, Err, Result, nat_lt}
 use Rattle.division.specs.declared.refusals.Refusal.{Refusal}
 use Rattle.division.specs.Refusals.{Check, checked, after}
 use Rattle.contribution.specs.declared.terms.Security.{Security}

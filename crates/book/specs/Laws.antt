@@ -1,5 +1,5 @@
 -- What holds after every history of calls.
-use Rattle.std.specs.Prelude.{◌≡◌, ℕ, ◌+◌, ◌-◌, ◌<◌, ◌≤◌, Bool, true, false, cond, ◌&&◌, List, [], ◌∷◌, ◌++◌, map, length, is_some, is_ok, Some, None, Ok, Err, sum, Option, Result, ◌==◌, slice_index, slice_index_or}
+use Rattle.std.specs.Prelude.{◌≡◌, ℕ, ◌+◌, ◌-◌, ◌<◌, Bool, true, false, cond, ◌&&◌, List, [], ◌∷◌, ◌++◌, map, length, is_some, is_ok, Some, Ok, Err, sum, Option, Result, ◌==◌, slice_index, slice_index_or}
 use Rattle.division.specs.declared.refusals.Refusal.{Refusal}
 use Rattle.division.specs.Fairness.{Fair}
 use Rattle.contribution.specs.Steps.{minimum, calculated, renewed}

@@ -1,5 +1,5 @@
 -- What becomes of a standing.
-use Rattle.std.specs.Prelude.{Bool, true, false, Some, None, Option}
+use Rattle.std.specs.Prelude.{Some, None, Option}
 use Rattle.book.specs.declared.rows.Standing.{Standing}
 use Rattle.book.specs.declared.rows.Standing.TheVariants.{Active, Defaulting, Barred}
 use Rattle.book.specs.declared.standings.Event.{Event}

@@ -18,7 +18,7 @@ use Rattle.book.specs.declared.standings.Event.TheVariants.{Update, Regulate, Op
 use Rattle.book.specs.Refusals.{by_book}
 use Rattle.book.specs.Standings.{next}
 use Rattle.book.specs.declared.groups.Group.TheVariants.{OwnBase, OwnReserve, OtherBases, OtherReserves}
-use Rattle.book.specs.declared.groups.Basis.TheVariants.{Base, Charged}
+use Rattle.book.specs.declared.groups.Basis.TheVariants.{Charged}
 use Rattle.book.specs.Groups.{weights, pays, used_rows}
 use Rattle.book.specs.Rows.{share, shares, place, row_of, changed, without, required_as, based_as_required, standing_after, case_closed, credited}
 

@@ -38,7 +38,7 @@ impl<C: House> Book<C> {
 
     // The place of a member against whom a case can be opened.
     fn opens(&self, code: u64) -> Result<usize, Fault>
-        ensures answer { answer refusal result ≡ checked (open_checks (view balances self.now) code) (unwrap_or (place self.now.table.rows.items code) 0) }
+        ensures answer { answer refusal result ≡ checked (open_checks (view C.balances self.now) code) (unwrap_or (place self.now.table.rows.items code) 0) }
         ensures found { IfOk result (λ i. (place self.now.table.rows.items code ≡ Some i) × (i < vec_len self.now.table.rows)) }
         ensures room { OnOk result (self.now.opened < 65535) }
     {
@@ -64,10 +64,10 @@ impl<C: House> Book<C> {
 
     // The member becomes defaulting, and the case gets the next number.
     pub fn open_case(&mut self, code: u64) -> Result<Case, Fault>
-        ensures answer { answer refusal result ≡ checked (open_checks (view balances self.old) code) (record { number = self.old.opened + 1 }) }
-        ensures state { view balances self.new ≡ after result (case_opened (view balances self.old) code) (view balances self.old) }
-        ensures ready { ready self.new.house ≡ ready self.old.house }
-        ensures history { GoesOn (call.OpenCase code) (entered (λ c. Number c.number) (answer refusal result)) (ready self.old.house) (view balances self.old) (ready self.new.house) (view balances self.new) }
+        ensures answer { answer refusal result ≡ checked (open_checks (view C.balances self.old) code) (record { number = self.old.opened + 1 }) }
+        ensures state { view C.balances self.new ≡ after result (case_opened (view C.balances self.old) code) (view C.balances self.old) }
+        ensures ready { C.ready self.new.house ≡ C.ready self.old.house }
+        ensures history { GoesOn (call.OpenCase code) (entered (λ c. Number c.number) (answer refusal result)) (C.ready self.old.house) (view C.balances self.old) (C.ready self.new.house) (view C.balances self.new) }
     {
         let i = self.opens(code)?;
         let number = self.opened + 1;
@@ -100,11 +100,11 @@ impl Case {
 
     // Ends the case; a book in which it is not the open one hands it back.
     pub fn close<C: House>(self, book: &mut Book<C>) -> Result<u16, (Fault, Case)>
-        ensures answer { answer (λ e. refusal e.0) result ≡ checked (other_case (view balances book.old) self.number ∷ []) self.number }
+        ensures answer { answer (λ e. refusal e.0) result ≡ checked (other_case (view C.balances book.old) self.number ∷ []) self.number }
         ensures back { IfErr result (λ e. e.1.number ≡ self.number) }
-        ensures state { view balances book.new ≡ after result (closed (view balances book.old)) (view balances book.old) }
-        ensures ready { ready book.new.house ≡ ready book.old.house }
-        ensures history { GoesOn (Close self.number) (entered Number (answer (λ e. refusal e.0) result)) (ready book.old.house) (view balances book.old) (ready book.new.house) (view balances book.new) }
+        ensures state { view C.balances book.new ≡ after result (closed (view C.balances book.old)) (view C.balances book.old) }
+        ensures ready { C.ready book.new.house ≡ C.ready book.old.house }
+        ensures history { GoesOn (Close self.number) (entered Number (answer (λ e. refusal e.0) result)) (C.ready book.old.house) (view C.balances book.old) (C.ready book.new.house) (view C.balances book.new) }
     {
         let Case { number } = self;
         match book.case {

@@ -92,7 +92,7 @@ fn charge_groups(rows: &mut [Row], amount: u64) -> (u64, u64, u64, u64)
 impl<C: House> Book<C> {
     // The case as a use of the amount leaves it, where the book lets the use pass.
     fn usable(&self, number: u16, amount: u64) -> Result<Option<OpenCase>, Fault>
-        ensures { answer refusal result ≡ checked (usage (view balances self.now) number amount) (more_charged amount self.now.case) }
+        ensures { answer refusal result ≡ checked (usage (view C.balances self.now) number amount) (more_charged amount self.now.case) }
     {
         if !matches!(amount, 1..=LIMIT) {
             return Err(Fault::Amount);
@@ -113,10 +113,10 @@ impl<C: House> Book<C> {
 
     // The amount is charged in the four groups and goes to the settlement account; what each group paid is answered.
     pub fn use_fund(&mut self, case: &Case, amount: u64) -> Result<(u64, u64, u64, u64), Fault>
-        ensures answer { answer refusal result ≡ checked (use_checks (ready self.old.house) (view balances self.old) case.now.number amount) (group_sums (view balances self.old) amount) }
-        ensures state { view balances self.new ≡ after result (used (view balances self.old) amount) (view balances self.old) }
-        ensures ready { OnErr result (ready self.new.house ≡ ready self.old.house) }
-        ensures history { GoesOn (Use case.now.number amount) (entered (λ g. Groups g.0 g.1 g.2 g.3) (answer refusal result)) (ready self.old.house) (view balances self.old) (ready self.new.house) (view balances self.new) }
+        ensures answer { answer refusal result ≡ checked (use_checks (C.ready self.old.house) (view C.balances self.old) case.now.number amount) (group_sums (view C.balances self.old) amount) }
+        ensures state { view C.balances self.new ≡ after result (used (view C.balances self.old) amount) (view C.balances self.old) }
+        ensures ready { OnErr result (C.ready self.new.house ≡ C.ready self.old.house) }
+        ensures history { GoesOn (Use case.now.number amount) (entered (λ g. Groups g.0 g.1 g.2 g.3) (answer refusal result)) (C.ready self.old.house) (view C.balances self.old) (C.ready self.new.house) (view C.balances self.new) }
     {
         let next = self.usable(case.number, amount)?;
         self.house.transfer(FUND, SETTLEMENT, amount)?;
@@ -127,7 +127,7 @@ impl<C: House> Book<C> {
 
     // The case as a recovery of the amount leaves it, where the book lets the recovery pass.
     fn recoverable(&self, number: u16, amount: u64) -> Result<Option<OpenCase>, Fault>
-        ensures { answer refusal result ≡ checked (recovery (view balances self.now) number amount) (more_recovered amount self.now.case) }
+        ensures { answer refusal result ≡ checked (recovery (view C.balances self.now) number amount) (more_recovered amount self.now.case) }
     {
         if !matches!(amount, 1..=LIMIT) {
             return Err(Fault::Amount);
@@ -148,10 +148,10 @@ impl<C: House> Book<C> {
 
     // The amount comes from the settlement account and is divided by charged onto the reserves.
     pub fn recover(&mut self, case: &Case, amount: u64) -> Result<u64, Fault>
-        ensures answer { answer refusal result ≡ checked (recover_checks (ready self.old.house) (view balances self.old) case.now.number amount) amount }
-        ensures state { view balances self.new ≡ after result (recovered (view balances self.old) amount) (view balances self.old) }
-        ensures ready { OnErr result (ready self.new.house ≡ ready self.old.house) }
-        ensures history { GoesOn (Recover case.now.number amount) (entered Amount (answer refusal result)) (ready self.old.house) (view balances self.old) (ready self.new.house) (view balances self.new) }
+        ensures answer { answer refusal result ≡ checked (recover_checks (C.ready self.old.house) (view C.balances self.old) case.now.number amount) amount }
+        ensures state { view C.balances self.new ≡ after result (recovered (view C.balances self.old) amount) (view C.balances self.old) }
+        ensures ready { OnErr result (C.ready self.new.house ≡ C.ready self.old.house) }
+        ensures history { GoesOn (Recover case.now.number amount) (entered Amount (answer refusal result)) (C.ready self.old.house) (view C.balances self.old) (C.ready self.new.house) (view C.balances self.new) }
     {
         let next = self.recoverable(case.number, amount)?;
         self.house.transfer(SETTLEMENT, FUND, amount)?;

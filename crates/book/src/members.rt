@@ -32,7 +32,7 @@ pub(crate) fn is_code(code: u64) -> bool
 impl<C: House> Book<C> {
     // Whether a member can join, as far as the book knows.
     fn admits(&self, code: u64) -> Result<(), Fault>
-        ensures { answer refusal result ≡ clear (admission (view balances self.now) code) }
+        ensures { answer refusal result ≡ clear (admission (view C.balances self.now) code) }
     {
         if !is_code(code) {
             return Err(Fault::Code);
@@ -51,10 +51,10 @@ impl<C: House> Book<C> {
 
     // The member pays the minimum and gets a row.
     pub fn join(&mut self, code: u64) -> Result<u64, Fault>
-        ensures answer { answer refusal result ≡ checked (join_checks (ready self.old.house) (view balances self.old) code) minimum }
-        ensures state { view balances self.new ≡ after result (joined (view balances self.old) code) (view balances self.old) }
-        ensures ready { OnErr result (ready self.new.house ≡ ready self.old.house) }
-        ensures history { GoesOn (Join code) (entered Amount (answer refusal result)) (ready self.old.house) (view balances self.old) (ready self.new.house) (view balances self.new) }
+        ensures answer { answer refusal result ≡ checked (join_checks (C.ready self.old.house) (view C.balances self.old) code) minimum }
+        ensures state { view C.balances self.new ≡ after result (joined (view C.balances self.old) code) (view C.balances self.old) }
+        ensures ready { OnErr result (C.ready self.new.house ≡ C.ready self.old.house) }
+        ensures history { GoesOn (Join code) (entered Amount (answer refusal result)) (C.ready self.old.house) (view C.balances self.old) (C.ready self.new.house) (view C.balances self.new) }
     {
         self.admits(code)?;
         self.house.transfer(code, FUND, MINIMUM)?;
@@ -64,7 +64,7 @@ impl<C: House> Book<C> {
 
     // The place of the member's row, where its standing allows the call.
     fn allowed(&self, code: u64, event: Event) -> Result<usize, Fault>
-        ensures answer { answer refusal result ≡ checked (no_row (view balances self.now) code ∷ forbidden event (view balances self.now) code ∷ []) (unwrap_or (place self.now.table.rows.items code) 0) }
+        ensures answer { answer refusal result ≡ checked (no_row (view C.balances self.now) code ∷ forbidden event (view C.balances self.now) code ∷ []) (unwrap_or (place self.now.table.rows.items code) 0) }
         ensures found { IfOk result (λ i. (place self.now.table.rows.items code ≡ Some i) × (i < vec_len self.now.table.rows)) }
     {
         let place = self.table.place(code);
@@ -85,10 +85,10 @@ impl<C: House> Book<C> {
         securities: &[Security],
         trades: &[Trade],
     ) -> Result<u64, Fault>
-        ensures answer { answer refusal result ≡ checked (update_checks (view balances self.old) code securities.now trades.now) (updated_to (view balances self.old) code securities.now trades.now) }
-        ensures state { view balances self.new ≡ after result (updated (view balances self.old) code securities.now trades.now) (view balances self.old) }
-        ensures ready { ready self.new.house ≡ ready self.old.house }
-        ensures history { GoesOn (Update code securities.now trades.now) (entered Amount (answer refusal result)) (ready self.old.house) (view balances self.old) (ready self.new.house) (view balances self.new) }
+        ensures answer { answer refusal result ≡ checked (update_checks (view C.balances self.old) code securities.now trades.now) (updated_to (view C.balances self.old) code securities.now trades.now) }
+        ensures state { view C.balances self.new ≡ after result (updated (view C.balances self.old) code securities.now trades.now) (view C.balances self.old) }
+        ensures ready { C.ready self.new.house ≡ C.ready self.old.house }
+        ensures history { GoesOn (Update code securities.now trades.now) (entered Amount (answer refusal result)) (C.ready self.old.house) (view C.balances self.old) (C.ready self.new.house) (view C.balances self.new) }
     {
         if !is_code(code) {
             return Err(Fault::Code);
@@ -102,7 +102,7 @@ impl<C: House> Book<C> {
 
     // The place of a row that can be regulated, as far as the book knows.
     fn regulates(&self, code: u64) -> Result<usize, Fault>
-        ensures answer { answer refusal result ≡ checked (regulation (view balances self.now) code) (unwrap_or (place self.now.table.rows.items code) 0) }
+        ensures answer { answer refusal result ≡ checked (regulation (view C.balances self.now) code) (unwrap_or (place self.now.table.rows.items code) 0) }
         ensures found { IfOk result (λ i. (place self.now.table.rows.items code ≡ Some i) × (i < vec_len self.now.table.rows)) }
     {
         if !is_code(code) {
@@ -123,11 +123,11 @@ impl<C: House> Book<C> {
 
     // What is required above the base is paid in, what the base is above that is paid out: both amounts are answered.
     pub fn regulate(&mut self, code: u64) -> Result<(u64, u64), Fault>
-        ensures answer { answer refusal result ≡ checked (regulate_checks (ready self.old.house) (view balances self.old) code) (missing (view balances self.old) code, excess (view balances self.old) code) }
-        ensures state { view balances self.new ≡ after result (regulated (view balances self.old) code) (view balances self.old) }
-        ensures ready { OnErr result (ready self.new.house ≡ ready self.old.house) }
-        ensures unpaid { missing (view balances self.old) code + excess (view balances self.old) code ≡ 0 → ready self.new.house ≡ ready self.old.house }
-        ensures history { GoesOn (Regulate code) (entered (λ p. Paid p.0 p.1) (answer refusal result)) (ready self.old.house) (view balances self.old) (ready self.new.house) (view balances self.new) }
+        ensures answer { answer refusal result ≡ checked (regulate_checks (C.ready self.old.house) (view C.balances self.old) code) (missing (view C.balances self.old) code, excess (view C.balances self.old) code) }
+        ensures state { view C.balances self.new ≡ after result (regulated (view C.balances self.old) code) (view C.balances self.old) }
+        ensures ready { OnErr result (C.ready self.new.house ≡ C.ready self.old.house) }
+        ensures unpaid { missing (view C.balances self.old) code + excess (view C.balances self.old) code ≡ 0 → C.ready self.new.house ≡ C.ready self.old.house }
+        ensures history { GoesOn (Regulate code) (entered (λ p. Paid p.0 p.1) (answer refusal result)) (C.ready self.old.house) (view C.balances self.old) (C.ready self.new.house) (view C.balances self.new) }
     {
         let i = self.regulates(code)?;
         let row = self.table.row(Some(i));
@@ -140,7 +140,7 @@ impl<C: House> Book<C> {
 
     // The place of the row of a member that may leave, as far as the book knows.
     fn departs(&self, code: u64) -> Result<usize, Fault>
-        ensures answer { answer refusal result ≡ checked (departure (view balances self.now) code) (unwrap_or (place self.now.table.rows.items code) 0) }
+        ensures answer { answer refusal result ≡ checked (departure (view C.balances self.now) code) (unwrap_or (place self.now.table.rows.items code) 0) }
         ensures found { IfOk result (λ i. (place self.now.table.rows.items code ≡ Some i) × (i < vec_len self.now.table.rows)) }
     {
         if !is_code(code) {
@@ -157,11 +157,11 @@ impl<C: House> Book<C> {
 
     // The member is paid what it has in the fund, and its row is taken out.
     pub fn leave(&mut self, code: u64) -> Result<u64, Fault>
-        ensures answer { answer refusal result ≡ checked (leave_checks (ready self.old.house) (view balances self.old) code) (share (row_of self.old.table.rows.items code)) }
-        ensures state { view balances self.new ≡ after result (left (view balances self.old) code) (view balances self.old) }
-        ensures ready { OnErr result (ready self.new.house ≡ ready self.old.house) }
-        ensures unpaid { share (row_of self.old.table.rows.items code) ≡ 0 → ready self.new.house ≡ ready self.old.house }
-        ensures history { GoesOn (Leave code) (entered Amount (answer refusal result)) (ready self.old.house) (view balances self.old) (ready self.new.house) (view balances self.new) }
+        ensures answer { answer refusal result ≡ checked (leave_checks (C.ready self.old.house) (view C.balances self.old) code) (share (row_of self.old.table.rows.items code)) }
+        ensures state { view C.balances self.new ≡ after result (left (view C.balances self.old) code) (view C.balances self.old) }
+        ensures ready { OnErr result (C.ready self.new.house ≡ C.ready self.old.house) }
+        ensures unpaid { share (row_of self.old.table.rows.items code) ≡ 0 → C.ready self.new.house ≡ C.ready self.old.house }
+        ensures history { GoesOn (Leave code) (entered Amount (answer refusal result)) (C.ready self.old.house) (view C.balances self.old) (C.ready self.new.house) (view C.balances self.new) }
     {
         let i = self.departs(code)?;
         let paid_out = self.table.share(i);
@@ -172,10 +172,10 @@ impl<C: House> Book<C> {
 
     // A transfer between two accounts that are not the fund's.
     pub fn other_transfer(&mut self, from: u64, to: u64, amount: u64) -> Result<u64, Fault>
-        ensures answer { answer refusal result ≡ checked (other_checks (ready self.old.house) (view balances self.old) from to amount) amount }
-        ensures state { view balances self.new ≡ after result (transferred (view balances self.old) from to amount) (view balances self.old) }
-        ensures ready { OnErr result (ready self.new.house ≡ ready self.old.house) }
-        ensures history { GoesOn (OtherTransfer from to amount) (entered Amount (answer refusal result)) (ready self.old.house) (view balances self.old) (ready self.new.house) (view balances self.new) }
+        ensures answer { answer refusal result ≡ checked (other_checks (C.ready self.old.house) (view C.balances self.old) from to amount) amount }
+        ensures state { view C.balances self.new ≡ after result (transferred (view C.balances self.old) from to amount) (view C.balances self.old) }
+        ensures ready { OnErr result (C.ready self.new.house ≡ C.ready self.old.house) }
+        ensures history { GoesOn (OtherTransfer from to amount) (entered Amount (answer refusal result)) (C.ready self.old.house) (view C.balances self.old) (C.ready self.new.house) (view C.balances self.new) }
     {
         if from == FUND || to == FUND {
             return Err(Fault::FundNamed);

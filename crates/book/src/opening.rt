@@ -19,9 +19,9 @@ use houses::House;
 impl<C: House> Book<C> {
     // Whether a book can be opened over the house.
     pub fn check(house: &mut C) -> Result<(), Fault>
-        ensures answer { answer refusal result ≡ clear (opening_checks (balances house.old)) }
-        ensures balances { balances house.new ≡ balances house.old }
-        ensures ready { ready house.new ≡ ready house.old }
+        ensures answer { answer refusal result ≡ clear (opening_checks (C.balances house.old)) }
+        ensures balances { C.balances house.new ≡ C.balances house.old }
+        ensures ready { C.ready house.new ≡ C.ready house.old }
     {
         match house.balance(FUND) {
             Err(fault) => Err(Fault::House(fault)),
@@ -32,13 +32,13 @@ impl<C: House> Book<C> {
 
     // The book over the house, its rows kept in the list, which is empty and has room for 64.
     pub fn open(house: C, list: Vec<Row>) -> Book<C>
-        requires checked { clear (opening_checks (balances house)) ≡ Ok tt }
+        requires checked { clear (opening_checks (C.balances house)) ≡ Ok tt }
         requires empty { vec_len list ≡ 0 }
         requires room { 64 ≤ vec_capacity list }
-        ensures state { view balances result ≡ opened_over (balances house) }
-        ensures ready { ready result.house ≡ ready house }
-        ensures history { Leads (balances house) [] (ready result.house) (view balances result) }
-        ensures lawful { Lawful (balances house) [] }
+        ensures state { view C.balances result ≡ opened_over (C.balances house) }
+        ensures ready { C.ready result.house ≡ C.ready house }
+        ensures history { Leads (C.balances house) [] (C.ready result.house) (view C.balances result) }
+        ensures lawful { Lawful (C.balances house) [] }
     {
         Book {
             house,
@@ -57,9 +57,9 @@ impl<C: House> Book<C> {
 
     // The balance of an account of the house.
     pub fn balance(&mut self, account: u64) -> Result<u64, Fault>
-        ensures told { answer refusal result ≡ told (balances self.old.house account) }
-        ensures state { view balances self.new ≡ view balances self.old }
-        ensures ready { ready self.new.house ≡ ready self.old.house }
+        ensures told { answer refusal result ≡ told (C.balances self.old.house account) }
+        ensures state { view C.balances self.new ≡ view C.balances self.old }
+        ensures ready { C.ready self.new.house ≡ C.ready self.old.house }
     {
         Ok(self.house.balance(account)?)
     }

@@ -22,10 +22,10 @@ pub(crate) fn settle<C: House>(
     paid_in: u64,
     paid_out: u64,
 ) -> Result<(), Fault>
-    ensures answer { answer refusal result ≡ clear (settle_checks (ready house.old) (balances house.old) code paid_in paid_out) }
-    ensures balances { balances house.new ≡ after result (settled (balances house.old) code paid_in paid_out) (balances house.old) }
-    ensures ready { OnErr result (ready house.new ≡ ready house.old) }
-    ensures unpaid { paid_in + paid_out ≡ 0 → ready house.new ≡ ready house.old }
+    ensures answer { answer refusal result ≡ clear (settle_checks (C.ready house.old) (C.balances house.old) code paid_in paid_out) }
+    ensures balances { C.balances house.new ≡ after result (settled (C.balances house.old) code paid_in paid_out) (C.balances house.old) }
+    ensures ready { OnErr result (C.ready house.new ≡ C.ready house.old) }
+    ensures unpaid { paid_in + paid_out ≡ 0 → C.ready house.new ≡ C.ready house.old }
 {
     if paid_in > 0 {
         house.transfer(code, FUND, paid_in)

@@ -107,7 +107,7 @@ pub(crate) fn total(rows: &[Row], basis: Basis) -> u64
 impl<C: House> Book<C> {
     // Whether an income can be shared, as far as the book knows.
     fn earns(&self, amount: u64) -> Result<(), Fault>
-        ensures { answer refusal result ≡ clear (earning (view balances self.now) amount) }
+        ensures { answer refusal result ≡ clear (earning (view C.balances self.now) amount) }
     {
         if !matches!(amount, 1..=LIMIT) {
             return Err(Fault::Amount);
@@ -123,10 +123,10 @@ impl<C: House> Book<C> {
 
     // The amount comes from the settlement account and is divided by base onto the reserves.
     pub fn income(&mut self, amount: u64) -> Result<u64, Fault>
-        ensures answer { answer refusal result ≡ checked (income_checks (ready self.old.house) (view balances self.old) amount) amount }
-        ensures state { view balances self.new ≡ after result (earned (view balances self.old) amount) (view balances self.old) }
-        ensures ready { OnErr result (ready self.new.house ≡ ready self.old.house) }
-        ensures history { GoesOn (Income amount) (entered Amount (answer refusal result)) (ready self.old.house) (view balances self.old) (ready self.new.house) (view balances self.new) }
+        ensures answer { answer refusal result ≡ checked (income_checks (C.ready self.old.house) (view C.balances self.old) amount) amount }
+        ensures state { view C.balances self.new ≡ after result (earned (view C.balances self.old) amount) (view C.balances self.old) }
+        ensures ready { OnErr result (C.ready self.new.house ≡ C.ready self.old.house) }
+        ensures history { GoesOn (Income amount) (entered Amount (answer refusal result)) (C.ready self.old.house) (view C.balances self.old) (C.ready self.new.house) (view C.balances self.new) }
     {
         self.earns(amount)?;
         self.house.transfer(SETTLEMENT, FUND, amount)?;

@@ -2,21 +2,21 @@ use Rattle.std.proofs.Common.{arith}
 use Rattle.book.proofs.Levies.{room_after, in_turn, used_in_turn}
 use Rattle.book.proofs.charging.charge_groups.Goals as goal
 
-pub levy-own-reserve-requires : goal.levy-own-reserve-requires
-levy-own-reserve-requires c = record { rows = omega (arith, c.requires.rows, c.levy-own-base.auto.rows); limits = room_after c.levy-own-base.ensures c.requires.limits }
+pub levy-own_reserve-requires : goal.levy-own_reserve-requires
+levy-own_reserve-requires c = record { rows = omega (arith, c.requires.rows, c.levy-own_base.auto.rows); limits = room_after c.levy-own_base.ensures c.requires.limits }
 
 pub levy-bases-requires : goal.levy-bases-requires
 levy-bases-requires c =
-    record { rows = omega (arith, c.requires.rows, c.levy-own-base.auto.rows, c.levy-own-reserve.auto.rows); limits = room_after c.levy-own-reserve.ensures (room_after c.levy-own-base.ensures c.requires.limits) }
+    record { rows = omega (arith, c.requires.rows, c.levy-own_base.auto.rows, c.levy-own_reserve.auto.rows); limits = room_after c.levy-own_reserve.ensures (room_after c.levy-own_base.ensures c.requires.limits) }
 
 pub levy-reserves-requires : goal.levy-reserves-requires
 levy-reserves-requires c =
     record {
-      rows = omega (arith, c.requires.rows, c.levy-own-base.auto.rows, c.levy-own-reserve.auto.rows, c.levy-bases.auto.rows);
-      limits = room_after c.levy-bases.ensures (room_after c.levy-own-reserve.ensures (room_after c.levy-own-base.ensures c.requires.limits));
+      rows = omega (arith, c.requires.rows, c.levy-own_base.auto.rows, c.levy-own_reserve.auto.rows, c.levy-bases.auto.rows);
+      limits = room_after c.levy-bases.ensures (room_after c.levy-own_reserve.ensures (room_after c.levy-own_base.ensures c.requires.limits));
     }
 
 pub returns : goal.returns
 returns c =
-    let p = in_turn c.levy-own-base.ensures c.levy-own-reserve.ensures c.levy-bases.ensures c.levy-reserves.ensures in
-    record { paid = cc; rows = used_in_turn c.levy-own-base.ensures c.levy-own-reserve.ensures c.levy-bases.ensures c.levy-reserves.ensures }
+    let p = in_turn c.levy-own_base.ensures c.levy-own_reserve.ensures c.levy-bases.ensures c.levy-reserves.ensures in
+    record { paid = cc; rows = used_in_turn c.levy-own_base.ensures c.levy-own_reserve.ensures c.levy-bases.ensures c.levy-reserves.ensures }

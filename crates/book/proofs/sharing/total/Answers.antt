@@ -5,8 +5,8 @@ use Rattle.book.specs.Rows.{nobody}
 use Rattle.book.specs.Groups.{weight}
 use Rattle.book.proofs.sharing.total.Goals as goal
 
-pub overflow-add-sum : goal.overflow-add-sum
-overflow-add-sum c =
+pub overflow_add-sum : goal.overflow_add-sum
+overflow_add-sum c =
     let rows = c.args.rows.now in
     let f = weight c.args.basis in
     omega (arith, c.loop-row.invariant, c.weight-sum.ensures, sum_by_more f rows c.loop-row.row-index nobody c.loop-row-test.true, sum_by-take-le f rows (c.loop-row.row-index + 1), sum-map f rows, c.requires)

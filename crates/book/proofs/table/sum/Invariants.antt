@@ -1,4 +1,4 @@
-use Rattle.std.proofs.Common.{◌≡◌, ◌≤◌, take}
+use Rattle.std.proofs.Common.{◌≡◌, take}
 use Rattle.book.specs.Rows.{shares}
 use Rattle.book.proofs.table.sum.Given as goal
 

@@ -9,10 +9,16 @@ use Rattle.book.proofs.books.Book.open.Goals.{Start}
 none : (g : given.Over) (c : Start g) → vec_items c.args.list ≡ []
 none g c = nil_from_length (vec_items c.args.list) (sym c.args.list.ok.0 ∙ c.requires.empty)
 
-pub invariant-of-result : goal.invariant-of-result
-invariant-of-result g c =
+pub invariant_of-result : goal.invariant_of-result
+invariant_of-result g c =
     let limit : shares (vec_items c.args.list) ≤ 4000000000 = rw (none g c) (omega arith) in
-    (omega arith, (c.requires.room, (limit, (ap charges (none g c), (omega arith, tt)))))
+    record {
+      few = omega arith;
+      room = c.requires.room;
+      limit = limit;
+      tally = ap charges (none g c);
+      bound = omega arith;
+    }
 
 pub returns : goal.returns
 returns g c =

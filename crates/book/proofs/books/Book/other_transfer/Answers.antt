@@ -18,15 +18,15 @@ returns-then-from-eq-FUND g c =
     let answer = sym (cond-true _ _ _ named) in
     record { answer = answer; state = refl; ready = refl; history = refused_goes_on (OtherTransfer c.args.from c.args.to c.args.amount) c.args.amount rd rd s s _ answer refl refl }
 
-pub returns-in-err-transfer : goal.returns-in-err-transfer
-returns-in-err-transfer g c =
-    let p = err_from_is_err_and c.from-residual.result c.from-residual.ensures.1 in
+pub returns-in_err-transfer : goal.returns-in_err-transfer
+returns-in_err-transfer g c =
+    let p = err_from_is_err_and c.from_residual.result c.from_residual.ensures.1 in
     let s = view g.C.House.balances c.args.self.now in
     let rd = g.C.House.ready c.args.self.now.house in
     let free : (eqb c.args.from 0 || eqb c.args.to 0) ≡ false = grind (arith, nat_tests) in
-    let answer = checked_refused (checks rd s.balances c.args.from c.args.to c.args.amount) (tt {0}) c.args.amount _ c.in-err-transfer.ensures.verdict ∙ sym (cond-false _ _ _ free) in
-    let state = ap (with_rows s s.rows) c.in-err-transfer.ensures.balances in
-    let ready = c.in-err-transfer.ensures.ready in
+    let answer = checked_refused (checks rd s.balances c.args.from c.args.to c.args.amount) (tt {0}) c.args.amount _ c.in_err-transfer.ensures.verdict ∙ sym (cond-false _ _ _ free) in
+    let state = ap (with_rows s s.rows) c.in_err-transfer.ensures.balances in
+    let ready = c.in_err-transfer.ensures.ready in
     rw (p.1, p.2) (record { answer = answer; state = state; ready = ready; history = refused_goes_on (OtherTransfer c.args.from c.args.to c.args.amount) c.args.amount rd _ s _ _ answer state ready })
 
 pub returns : goal.returns
@@ -34,6 +34,6 @@ returns g c =
     let s = view g.C.House.balances c.args.self.now in
     let rd = g.C.House.ready c.args.self.now.house in
     let free : (eqb c.args.from 0 || eqb c.args.to 0) ≡ false = grind (arith, nat_tests) in
-    let answer = (checked_made (checks rd s.balances c.args.from c.args.to c.args.amount) tt _ c.args.amount c.in-ok-transfer.ensures.verdict).1 ∙ sym (cond-false _ _ _ free) in
-    let state = ap (with_rows s s.rows) c.in-ok-transfer.ensures.balances in
+    let answer = (checked_made (checks rd s.balances c.args.from c.args.to c.args.amount) tt _ c.args.amount c.in_ok-transfer.ensures.verdict).1 ∙ sym (cond-false _ _ _ free) in
+    let state = ap (with_rows s s.rows) c.in_ok-transfer.ensures.balances in
     record { answer = answer; state = state; ready = tt; history = accepted_goes_on (OtherTransfer c.args.from c.args.to c.args.amount) c.args.amount rd _ s _ Amount c.args.amount answer refl state (λ z. absurd (true≢false z)) }
