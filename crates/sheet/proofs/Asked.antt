@@ -1,5 +1,5 @@
 -- What a call on the book answers and leaves, as a sheet tells it.
-use Rattle.std.proofs.Common.{◌≡◌, ℕ, Bool, true, List, Some, None, Ok, Err, Option, Result, sym, refl, ap, ◌∙◌}
+use Rattle.std.proofs.Common.{◌≡◌, ℕ, true, List, Some, None, Ok, Err, Option, Result, sym, refl, ap, ◌∙◌}
 use Rattle.division.specs.declared.refusals.Refusal.{Refusal}
 use Rattle.division.specs.Refusals.{answer, after, checked}
 use Rattle.division.proofs.Checks.{checked_made, checked_refused}

@@ -1,5 +1,5 @@
 -- What was printed, one text after the other.
-use Rattle.std.proofs.Common.{◌≡◌, ℕ, ◌+◌, true, false, List, [], ◌∷◌, ◌++◌, is_some, Some, None, string_bytes, Option, sym, refl, ap, ◌∙◌, append_assoc, append-nil}
+use Rattle.std.proofs.Common.{◌≡◌, ℕ, List, [], ◌++◌, is_some, Some, None, string_bytes, Option, sym, refl, ap, ◌∙◌, append_assoc, append-nil}
 use Rattle.std.proofs.lemmas.Bool.{true≢false}
 use Rattle.book.specs.declared.rows.OpenCase.{OpenCase}
 use Rattle.sheet.specs.declared.entries.Output.{Output}

@@ -1,5 +1,5 @@
 -- An ISIN that was read has 12 bytes.
-use Rattle.std.proofs.Common.{◌≡◌, ℕ, ◌+◌, Bool, true, false, cond, eqb, ltb, List, [], ◌∷◌, length, take, Some, None, Option, unwrap_or, sym, refl, ap, ◌∙◌, inl, inr, arith}
+use Rattle.std.proofs.Common.{◌≡◌, ℕ, Bool, true, false, cond, eqb, ltb, List, [], ◌∷◌, length, take, Some, None, Option, unwrap_or, sym, refl, ap, ◌∙◌, inl, inr, arith}
 use Rattle.std.proofs.lemmas.Bool.{cases_Bool, cond-true, cond-false}
 use Rattle.std.proofs.lemmas.Bool.Decides.{nat_tests}
 use Rattle.std.specs.Option.{option_map}
@@ -8,7 +8,7 @@ use Rattle.contribution.specs.declared.terms.Side.{Side}
 use Rattle.sheet.specs.declared.lines.Request.{Request}
 use Rattle.sheet.specs.declared.lines.Request.TheVariants.{Join, Update, Regulate, OpenCase, Leave, Income, Use, Recover, Close, Transfer}
 use Rattle.sheet.specs.Fields.{then, field, number, isin, side, next, last}
-use Rattle.sheet.specs.Lines.{Item, Account, Listed, Traded, Asked, BadAccount, Bad, Sized, account, security, trade, one, transfer, by_letter, malformed, read, first, text_byte}
+use Rattle.sheet.specs.Lines.{Item, Account, Listed, Traded, Asked, BadAccount, Bad, Sized, account, one, transfer, by_letter, malformed, read, first, text_byte}
 
 -- of what was read, if anything was
 abbrev Fits : Option Item → Type 0

@@ -1,6 +1,7 @@
 -- A desk as a day, and the case that is held beside it.
 use Rattle.std.specs.Prelude.{◌≡◌, ℕ, false, List, ◌++◌, Some, None, Ok, Err, vec_items, string_bytes, Option, Result}
 use Rattle.houses.specs.Table.{kept}
+use Rattle.houses.specs.declared.cash.House.{Ghosts}
 use Rattle.houses.specs.declared.table_house.TableHouse.{TableHouse}
 use Rattle.book.specs.Books.{view}
 use Rattle.book.specs.States.{State}
@@ -18,7 +19,7 @@ use Rattle.sheet.specs.Lines.{Item, Account, Listed, Traded, Asked, BadAccount, 
 use Rattle.sheet.specs.Days.{Day, Taken, GoesOn, Stops, stopped, no_book, opens, opening, new_day}
 
 -- a book above a table house
-abbrev pub ledger : Book TableHouse → State
+abbrev pub ledger : {house : Ghosts TableHouse} → Book TableHouse house → State
 ledger b = view (λ h. kept (vec_items h.accounts)) b
 
 abbrev pub day_of : Desk → Day

@@ -1,4 +1,4 @@
-use Rattle.std.proofs.Common.{◌≡◌, Err, vec_items, sym, refl, ap, ◌∙◌}
+use Rattle.std.proofs.Common.{Err, vec_items, sym, ap, ◌∙◌}
 use Rattle.std.proofs.lemmas.List.{nil_from_length}
 use Rattle.division.specs.Refusals.{clear}
 use Rattle.houses.specs.Openings.{opened}

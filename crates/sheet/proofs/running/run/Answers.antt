@@ -7,5 +7,5 @@ use Rattle.sheet.proofs.running.run.Goals as goal
 pub returns : goal.returns
 returns c =
     let s = c.args.sheet.now in
-    let printed : string_bytes c.run-sheet.new.out.text ≡ run s = search rules in
+    let printed : string_bytes c.run_sheet.new.out.text ≡ run s = search rules in
     record { printed = printed; faithful = subst (λ (l : List ℕ). Faithful s l) (sym printed) (faithful s) }

@@ -1,5 +1,5 @@
-use Rattle.std.proofs.Common.{◌≡◌, ◌+◌, ◌++◌, length, sym, refl, ap, ◌∙◌, subst, arith}
-use Rattle.sheet.specs.Lines.{Sized, said, rest, items}
+use Rattle.std.proofs.Common.{◌+◌, ◌++◌, length, sym, ap, subst, arith}
+use Rattle.sheet.specs.Lines.{Sized, said, items}
 use Rattle.sheet.specs.Days.{stopped, finish, taken, body}
 use Rattle.sheet.specs.Desks.{day_of, Written}
 use Rattle.sheet.proofs.Printed.{written_both}
@@ -21,10 +21,10 @@ returns-in-Some-stop c =
     let d = day_of c.loop-line.desk in
     let f = day_of c.take-stop.new.self in
     let o = c.args.out.now in
-    let b = body (items c.into-iter-line-iterator.result.rest.now) c.args.first (day_of c.args.desk) in
+    let b = body (items c.into_iter-line-iterator.result.rest.now) c.args.first (day_of c.args.desk) in
     let was = subst (λ x. Pending o c.loop-line.out x b) (body_step s t (said c.in-Some.line) n d went.0 went.1 went.2) c.loop-line.invariant.4 in
     let end = stops (taken n d (said c.in-Some.line)) c.take-stop.result.0 d f o c.loop-line.out c.take-stop.new.out n k (body (items t)) b c.take-stop.ensures.taken c.in-Some-stop.is was in
-    subst (λ x. Written o (body (items x.rest.now) c.args.first (day_of c.args.desk)) c.finish.new.out) c.into-iter-line-iterator.ensures.into-iter-gives (pending_end o c.take-stop.new.out c.finish.new.out (stopped n k ++ finish (n + 1) f) b end (written_both c.take-stop.new.out c.stop.new.self c.finish.new.out (stopped n k) (finish (n + 1) f) c.stop.ensures c.finish.ensures))
+    subst (λ x. Written o (body (items x.rest.now) c.args.first (day_of c.args.desk)) c.finish.new.out) c.into_iter-line-iterator.ensures.into_iter_gives (pending_end o c.take-stop.new.out c.finish.new.out (stopped n k ++ finish (n + 1) f) b end (written_both c.take-stop.new.out c.stop.new.self c.finish.new.out (stopped n k) (finish (n + 1) f) c.stop.ensures c.finish.ensures))
 
 pub loop-line-preserved : goal.loop-line-preserved
 loop-line-preserved c =
@@ -34,7 +34,7 @@ loop-line-preserved c =
     let n = c.loop-line.n in
     let d = day_of c.loop-line.desk in
     let f = day_of c.take-stop.new.self in
-    let b = body (items c.into-iter-line-iterator.result.rest.now) c.args.first (day_of c.args.desk) in
+    let b = body (items c.into_iter-line-iterator.result.rest.now) c.args.first (day_of c.args.desk) in
     let was = subst (λ x. Pending c.args.out.now c.loop-line.out x b) (body_step s t (said c.in-Some.line) n d went.0 went.1 went.2) c.loop-line.invariant.4 in (
       tt,
       tt,

@@ -1,4 +1,4 @@
-use Rattle.std.proofs.Common.{◌≡◌, Err, sym, ap, subst}
+use Rattle.std.proofs.Common.{Err, sym, ap, subst}
 use Rattle.sheet.specs.Lines.{items}
 use Rattle.sheet.specs.Days.{printed, no_book, unless_refused, new_day, body}
 use Rattle.sheet.specs.Desks.{Written}

@@ -1,5 +1,5 @@
-use Rattle.std.proofs.Common.{◌≡◌, [], ◌∷◌, ◌++◌, length, get_or, take, vec_items, sym, ap, ◌∙◌, arith}
-use Rattle.std.proofs.lemmas.List.{take_more, take_all, length-take}
+use Rattle.std.proofs.Common.{length, take, vec_items, ap, ◌∙◌, arith}
+use Rattle.std.proofs.lemmas.List.{take_all, length-take}
 use Rattle.sheet.specs.Days.{trades_of}
 use Rattle.sheet.proofs.OwnTrades.{own_fewer, own_turn}
 use Rattle.sheet.proofs.trades.collect.Goals as goal

@@ -1,4 +1,4 @@
-use Rattle.std.proofs.Common.{◌≡◌, sym, refl, ap, ◌∙◌}
+use Rattle.std.proofs.Common.{sym, refl, ap, ◌∙◌}
 use Rattle.contribution.specs.Steps.{minimum}
 use Rattle.book.specs.declared.answers.Answer.TheVariants.{Amount, Paid}
 use Rattle.book.specs.Refusals.{refusal}
@@ -66,10 +66,10 @@ returns-in-Transfer c =
     let d = day_of c.args.self.now in
     let s = d.book in
     let k = call.OtherTransfer c.in-Transfer.from c.in-Transfer.to c.in-Transfer.n in
-    let t = ledger c.other-transfer.new.self in
-    let said = c.other-transfer.ensures in
+    let t = ledger c.other_transfer.new.self in
+    let said = c.other_transfer.ensures in
     rw c.in-Transfer.is (record {
-      answer = c.amount-in-Transfer.ensures ∙ as_said k Amount refusal c.in-Transfer.n s t refl c.other-transfer.result said.answer;
-      day = with_book d (as_left k Amount refusal c.in-Transfer.n s t refl c.other-transfer.result said.answer said.state);
-      held = c.requires ∙ sym (ap (λ x. open_number x.case) said.state ∙ still (λ x. open_number x.case) c.other-transfer.result s (transferred s c.in-Transfer.from c.in-Transfer.to c.in-Transfer.n) refl);
+      answer = c.amount-in-Transfer.ensures ∙ as_said k Amount refusal c.in-Transfer.n s t refl c.other_transfer.result said.answer;
+      day = with_book d (as_left k Amount refusal c.in-Transfer.n s t refl c.other_transfer.result said.answer said.state);
+      held = c.requires ∙ sym (ap (λ x. open_number x.case) said.state ∙ still (λ x. open_number x.case) c.other_transfer.result s (transferred s c.in-Transfer.from c.in-Transfer.to c.in-Transfer.n) refl);
     })

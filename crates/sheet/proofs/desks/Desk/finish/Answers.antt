@@ -1,7 +1,7 @@
-use Rattle.std.proofs.Common.{◌≡◌, ◌++◌, sym, ap, ◌∙◌, subst}
+use Rattle.std.proofs.Common.{sym, ap, ◌∙◌, subst}
 use Rattle.sheet.specs.declared.lines.Request.TheVariants.{Close}
 use Rattle.sheet.specs.Days.{printed, answered, asked, ended}
-use Rattle.sheet.specs.Desks.{ledger, day_of, held_number, open_number, Written}
+use Rattle.sheet.specs.Desks.{day_of, held_number, Written}
 use Rattle.sheet.proofs.Printed.{written_both, finish_open}
 use Rattle.sheet.proofs.desks.Desk.finish.Goals as goal
 

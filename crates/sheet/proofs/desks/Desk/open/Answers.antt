@@ -1,7 +1,6 @@
-use Rattle.std.proofs.Common.{◌≡◌, ◌+◌, Err, sym, refl, ap, ◌∙◌}
+use Rattle.std.proofs.Common.{◌+◌, Err, sym, refl, ap, ◌∙◌}
 use Rattle.book.specs.declared.answers.Answer.TheVariants.{Number}
 use Rattle.book.specs.declared.cases.Case.{Case}
-use Rattle.book.specs.declared.faults.Fault.{Fault}
 use Rattle.book.specs.Refusals.{refusal}
 use Rattle.book.specs.Calls as call
 use Rattle.sheet.specs.Desks.{ledger, day_of, open_number}
@@ -14,7 +13,7 @@ returns-in-Err-default c =
     let s = d.book in
     let k = call.OpenCase c.args.code in
     let v : Case = record { number = s.opened + 1 } in
-    let t = ledger c.open-case.new.self in
+    let t = ledger c.open_case.new.self in
     let said = c.in-Err-default.ensures in
     record {
       answer = ap Err c.refusal.ensures ∙ as_said k (λ n. Number n.number) refusal v s t refl (Err c.in-Err-default.fault) said.answer;

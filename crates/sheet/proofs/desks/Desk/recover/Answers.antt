@@ -1,4 +1,4 @@
-use Rattle.std.proofs.Common.{◌≡◌, sym, refl, ap, ◌∙◌}
+use Rattle.std.proofs.Common.{sym, refl, ap, ◌∙◌}
 use Rattle.book.specs.declared.answers.Answer.TheVariants.{Amount}
 use Rattle.book.specs.Refusals.{refusal}
 use Rattle.book.specs.States.{recovered}

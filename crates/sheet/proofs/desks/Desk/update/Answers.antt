@@ -1,4 +1,4 @@
-use Rattle.std.proofs.Common.{◌≡◌, true, vec_items, sym, refl, ap, ◌∙◌}
+use Rattle.std.proofs.Common.{true, refl, ap, ◌∙◌}
 use Rattle.book.specs.declared.answers.Answer.TheVariants.{Amount}
 use Rattle.book.specs.Refusals.{refusal}
 use Rattle.book.specs.States.{updated_to, updated}
@@ -15,10 +15,10 @@ returns c =
     let s = d.book in
     let code = c.args.code in
     let t = ledger c.update.new.self in
-    let ss = c.as-slice-2.result.now in
-    let ts = c.as-slice-3.result.now in
-    let all = c.as-slice-2.ensures.value in
-    let own = c.as-slice-3.ensures.value ∙ c.collect.ensures.trades ∙ ap (λ l. trades_of l code) c.as-slice.ensures.value in
+    let ss = c.as_slice-2.result.now in
+    let ts = c.as_slice-3.result.now in
+    let all = c.as_slice-2.ensures.value in
+    let own = c.as_slice-3.ensures.value ∙ c.collect.ensures.trades ∙ ap (λ l. trades_of l code) c.as_slice.ensures.value in
     let k = call.Update code ss ts in
     let v = updated_to s code ss ts in
     let by = c.update.ensures in

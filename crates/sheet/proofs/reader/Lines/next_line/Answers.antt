@@ -2,12 +2,12 @@ use Rattle.std.proofs.Common.{◌∙◌, rules}
 use Rattle.sheet.proofs.Items.{unfinished, finished}
 use Rattle.sheet.proofs.reader.Lines.next_line.Goals as goal
 
-pub returns-in-default : goal.returns-in-default
-returns-in-default c =
-    let went = unfinished c.args.self.now.rest.now _ _ _ c.length-before.ensures.value c.split-at.ensures.front c.split-at.ensures.back c.in_default.ensures.cases in
+pub returns-in_default : goal.returns-in_default
+returns-in_default c =
+    let went = unfinished c.args.self.now.rest.now _ _ _ c.length_before.ensures.value c.split_at.ensures.front c.split_at.ensures.back c.in_default.ensures.cases in
     (search rules, c.malformed.ensures ∙ went.0, went.1)
 
 pub returns : goal.returns
 returns c =
-    let went = finished c.args.self.now.rest.now _ _ _ c.length-before.ensures.value c.split-at.ensures.front c.split-at.ensures.back _ _ c.in-Some.ensures.cases.0 in
+    let went = finished c.args.self.now.rest.now _ _ _ c.length_before.ensures.value c.split_at.ensures.front c.split_at.ensures.back _ _ c.in-Some.ensures.cases.0 in
     (search rules, c.parse.ensures ∙ went.0, went.1)
