@@ -7,6 +7,7 @@ mod trouble;
 
 use anyhow::anyhow;
 use std::io::Read;
+use std::process::ExitCode;
 use std::{env, io};
 
 // The most bytes that are read.
@@ -37,10 +38,10 @@ fn run(rt: &HostRuntime) -> anyhow::Result<()> {
     Ok(())
 }
 
-fn main(rt: HostRuntime) -> anyhow::Result<()> {
-    let done = run(&rt);
-    if let Err(e) = &done {
+fn main(rt: HostRuntime) -> io::Result<ExitCode> {
+    if let Err(e) = run(&rt) {
         eprintln!(rt; "sokhluveta: {e}")?;
+        return Ok(ExitCode::FAILURE);
     }
-    done
+    Ok(ExitCode::SUCCESS)
 }
