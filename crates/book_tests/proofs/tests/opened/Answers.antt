@@ -1,4 +1,4 @@
-use Rattle.std.proofs.Common.{◌≡◌, sym, ap, ◌∙◌, rules}
+use Rattle.std.proofs.Common.{sym, ap, ◌∙◌, rules}
 use Rattle.division.specs.Refusals.{clear}
 use Rattle.book.specs.States.{opening_checks}
 use Rattle.book_tests.proofs.tests.opened.Goals as goal
