@@ -4,7 +4,7 @@ ghost use Rattle.std.specs.Option.{unwrap_or};
 ghost use Rattle.division.specs.Refusals.{answer, after, checked};
 ghost use Rattle.book.specs.Refusals.{refusal};
 ghost use Rattle.book.specs.Rows.{place, case_closed};
-ghost use Rattle.book.specs.States.{open_checks, case_opened, is_open, other_case, closed};
+ghost use Rattle.book.specs.States.{open_checks, case_opened, other_case, closed};
 ghost use Rattle.book.specs.Books.{view};
 ghost use Rattle.book.specs.Calls.{Close, Number, entered};
 ghost use Rattle.book.specs.Calls as call;
@@ -26,16 +26,6 @@ pub struct Case {
 }
 
 impl<C: House> Book<C> {
-    // Whether the number is that of the open case.
-    fn is_open(&self, number: u16) -> bool
-        ensures { result ≡ is_open self.now.case number }
-    {
-        match self.case {
-            Some(open) => open.number == number,
-            None => false,
-        }
-    }
-
     // The place of a member against whom a case can be opened.
     fn opens(&self, code: u64) -> Result<usize, Fault>
         ensures answer { answer refusal result ≡ checked (open_checks (view C.balances self.now) code) (unwrap_or (place self.now.table.rows.items code) 0) }
