@@ -58,6 +58,7 @@ module _ (f : Row → ℕ → Row) where
 abbrev pub credit : Row → ℕ → Row
 credit r p = record { code = r.code; standing = r.standing; base = r.base; reserve = r.reserve + p; required = r.required; charged = r.charged }
 
+-- parts added to the reserves are rows changed each by its part
 pub credited_by_parts : (rows : List Row) (ps : List ℕ) → credited rows ps ≡ by_parts credit rows ps
 credited_by_parts [] [] = refl
 credited_by_parts [] (p ∷ ps) = refl

@@ -208,7 +208,7 @@ pub record Lawful (o : ℕ → Option ℕ) (h : List Turn) : Type 0 where
   pub bases : (member : ℕ) → is_some (place (book_after o h).rows member) ≡ true → (row_of (book_after o h).rows member).base + charges_since o member h ≡ owed o member h
 
 -- a call with its answer, the house ready or not before and after it: whatever calls led to the book s, they and this one lead to the book t, the answer is the one that follows from them, and all that holds after every history holds
-pub record GoesOn (k : Call) (a : Result Answer Refusal) (ready : Bool) (s : State) (ready-after : Bool) (t : State) : Type 0 where
+pub record GoesOn (k : Call) (a : Result Answer Refusal) (ready : Bool) (s : State) (ready_after : Bool) (t : State) : Type 0 where
   pub answer : (o : ℕ → Option ℕ) (h : List Turn) → Leads o h ready s → a ≡ filed o h (turn k ready)
-  pub leads : (o : ℕ → Option ℕ) (h : List Turn) → Leads o h ready s → Leads o (turn k ready ∷ h) ready-after t
+  pub leads : (o : ℕ → Option ℕ) (h : List Turn) → Leads o h ready s → Leads o (turn k ready ∷ h) ready_after t
   pub lawful : (o : ℕ → Option ℕ) (h : List Turn) → Leads o h ready s → Lawful o (turn k ready ∷ h)

@@ -184,7 +184,7 @@ bad_amount amount = (not (within 1 4000000000 amount), by_book 12)
 abbrev pub earning : State → ℕ → List Check
 earning s amount =
     (not (within 1 4000000000 amount), by_book 12)
-    ∷ ((sum (bases s.rows) == 0), by_book 40)
+    ∷ (sum (bases s.rows) == 0, by_book 40)
     ∷ (nat_lt 4000000000 (shares s.rows + amount), by_book 34) ∷ []
 
 abbrev pub income_checks : Bool → State → ℕ → List Check

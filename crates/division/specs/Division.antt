@@ -21,4 +21,4 @@ verdict a ws n =
     clear
     ((nat_lt 64 (length ws) || (not (n == length ws) || nat_lt 4000000000 (sum ws)), by_division 25)
     ∷ (nat_lt 4000000000 a, by_division 12)
-    ∷ ((sum ws == 0), by_division 40) ∷ [])
+    ∷ (sum ws == 0, by_division 40) ∷ [])

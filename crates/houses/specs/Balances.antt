@@ -21,7 +21,7 @@ Same b c = ((k : ℕ) → is_some (b k) ≡ is_some (c k)) × ((k : ℕ) → hel
 abbrev pub checks : Bool → (ℕ → Option ℕ) → ℕ → ℕ → ℕ → List Check
 checks ready b from to amount =
     (amount == 0 || nat_lt 4000000000 amount, by_house 12)
-    ∷ ((from == to), by_house 22)
+    ∷ (from == to, by_house 22)
     ∷ (not ready, by_house 51)
     ∷ (not (is_some (b from) && is_some (b to)), by_house 52)
     ∷ (nat_lt (held (b from)) amount, by_house 53)
