@@ -71,6 +71,14 @@ impl Fault {
     }
 }
 
+impl From<Fault> for Refusal {
+    ghost from_gives = { λ fault told. told ≡ refusal fault };
+
+    fn from(fault: Fault) -> Refusal {
+        fault.refusal()
+    }
+}
+
 impl From<houses::Fault> for Fault {
     ghost from_gives = { λ e r. r ≡ House e };
 

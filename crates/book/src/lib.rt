@@ -20,3 +20,4 @@ pub use books::Book;
 pub use cases::Case;
 pub use faults::Fault;
 pub use rows::{OpenCase, Row, Standing};
+pub use settling::FUND;

@@ -7,7 +7,7 @@ ghost use Rattle.book.specs.States.{settle_checks, settled};
 use houses::{Fault, House};
 
 // The fund's account.
-pub(crate) const FUND: u64 = 0;
+pub const FUND: u64 = 0;
 
 // The settlement account.
 pub(crate) const SETTLEMENT: u64 = 1;

@@ -1,5 +1,6 @@
 pub mod Refusals
 pub mod Isins
+pub mod Sides
 pub mod Checks
 pub mod Steps
 pub mod Positions

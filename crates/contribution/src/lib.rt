@@ -14,4 +14,4 @@ pub use assess::{MINIMUM, contribution};
 pub use assessments::Assessment;
 pub use faults::Fault;
 pub use positions::Position;
-pub use terms::{Isin, Security, Side, Trade};
+pub use terms::{Isin, Security, Side, Trade, UnknownSide};

@@ -1,7 +1,9 @@
 // The securities of the day and the trades of a member, as they are handed in: any number may be out of its range.
+ghost use Rattle.std.specs.Prelude.{◌≡◌};
+ghost use Rattle.contribution.specs.Sides.{side_of};
 
 // The twelve bytes of an ISIN.
-#[derive(Clone, Copy)]
+#[derive(Clone, Copy, PartialEq, Eq)]
 pub struct Isin {
     pub bytes: [u8; 12],
 }
@@ -19,6 +21,25 @@ pub struct Security {
 pub enum Side {
     Bought,
     Sold,
+}
+
+// A byte that stands for no side.
+#[derive(Clone, Copy, PartialEq, Eq, Debug)]
+pub struct UnknownSide(pub u8);
+
+// K is bought, S is sold.
+impl TryFrom<u8> for Side {
+    type Error = UnknownSide;
+
+    ghost try_from_gives = { λ letter read. read ≡ side_of letter };
+
+    fn try_from(letter: u8) -> Result<Side, UnknownSide> {
+        match letter {
+            b'K' => Ok(Side::Bought),
+            b'S' => Ok(Side::Sold),
+            _ => Err(UnknownSide(letter)),
+        }
+    }
 }
 
 #[derive(Clone, Copy)]

@@ -20,6 +20,15 @@ pub trait Weighted {
         ensures { result ≡ weight self.now };
 }
 
+// A number weighs what it is.
+impl Weighted for u64 {
+    ghost weight = { λ w. w };
+
+    fn weight(&self) -> u64 {
+        *self
+    }
+}
+
 fn total<T: Weighted>(things: &[T]) -> u128
     requires { length things.now ≤ 64 }
     ensures { result ≡ sum (map T.weight things.now) }

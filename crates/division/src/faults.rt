@@ -30,3 +30,11 @@ impl Fault {
         }
     }
 }
+
+impl From<Fault> for Refusal {
+    ghost from_gives = { λ fault told. told ≡ refusal fault };
+
+    fn from(fault: Fault) -> Refusal {
+        fault.refusal()
+    }
+}
