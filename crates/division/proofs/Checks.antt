@@ -9,18 +9,18 @@ pub checked_on : {V : Type 0} (cs ds : List Check) (v : V) → clear cs ≡ Ok t
 checked_on [] ds v e = refl
 checked_on (c ∷ cs) ds v e =
     elim c.0 as (λ b. cond b (Err c.1) (clear cs) ≡ Ok tt → cond b (Err c.1) (checked (cs ++ ds) v) ≡ checked ds v)
-    [ true ↦ λ h. (let z : ◌≡◌ {A = ℕ} 0 1 = cc in absurd (omega arith)) | false ↦ λ h. checked_on cs ds v h ] e
+    [ true ↦ λ h. cc | false ↦ λ h. checked_on cs ds v h ] e
 
 -- where the first list finds a fault, that refuses
 pub checked_off : {V : Type 0} (cs ds : List Check) (v : V) (r : Refusal) → clear cs ≡ Err r → checked (cs ++ ds) v ≡ Err r
-checked_off [] ds v r e = let z : ◌≡◌ {A = ℕ} 0 1 = cc in absurd (omega arith)
+checked_off [] ds v r e = cc
 checked_off (c ∷ cs) ds v r e =
     elim c.0 as (λ b. cond b (Err c.1) (clear cs) ≡ Err r → cond b (Err c.1) (checked (cs ++ ds) v) ≡ Err r)
     [ true ↦ λ h. (let s : c.1 ≡ r = cc in cc) | false ↦ λ h. checked_off cs ds v r h ] e
 
 -- the value plays no part in what is refused
 pub checked_refused : {V W : Type 0} (cs : List Check) (v : V) (w : W) (r : Refusal) → Err r ≡ checked cs v → Err r ≡ checked cs w
-checked_refused [] v w r e = let z : ◌≡◌ {A = ℕ} 0 1 = cc in absurd (omega arith)
+checked_refused [] v w r e = cc
 checked_refused (c ∷ cs) v w r e =
     elim c.0 as (λ b. Err r ≡ cond b (Err c.1) (checked cs v) → Err r ≡ cond b (Err c.1) (checked cs w))
     [ true ↦ λ h. (let s : r ≡ c.1 = cc in cc) | false ↦ λ h. checked_refused cs v w r h ] e
@@ -30,7 +30,7 @@ pub checked_made : {V W : Type 0} (cs : List Check) (v u : V) (w : W) → Ok u �
 checked_made [] v u w e = (let s : u ≡ v = cc in s, refl)
 checked_made (c ∷ cs) v u w e =
     elim c.0 as (λ b. Ok u ≡ cond b (Err c.1) (checked cs v) → (u ≡ v) × (Ok w ≡ cond b (Err c.1) (checked cs w)))
-    [ true ↦ λ h. (let z : ◌≡◌ {A = ℕ} 0 1 = cc in absurd (omega arith)) | false ↦ λ h. checked_made cs v u w h ] e
+    [ true ↦ λ h. cc | false ↦ λ h. checked_made cs v u w h ] e
 
 -- a walk over xs that has come to i
 module _ {X : Type 0} (f : ℕ → X → List Check) (xs : List X) (i : ℕ) where
@@ -51,7 +51,7 @@ pub clear_both : (cs ds : List Check) → Ok tt ≡ clear (cs ++ ds) → (Ok tt 
 clear_both [] ds e = (refl, e)
 clear_both (c ∷ cs) ds e =
     elim c.0 as (λ b. Ok tt ≡ cond b (Err c.1) (clear (cs ++ ds)) → (Ok tt ≡ cond b (Err c.1) (clear cs)) × (Ok tt ≡ clear ds))
-    [ true ↦ λ h. (let z : ◌≡◌ {A = ℕ} 0 1 = cc in absurd (omega arith)) | false ↦ λ h. clear_both cs ds h ] e
+    [ true ↦ λ h. cc | false ↦ λ h. clear_both cs ds h ] e
 
 pub clear_at : {X : Type 0} (f : ℕ → X → List Check) (xs : List X) (i k : ℕ) (d : X) → Ok tt ≡ clear (each_from f i xs) → k < length xs → Ok tt ≡ clear (f (i + k) (get_or xs k d))
 clear_at f [] i k d e h = absurd (omega arith)
@@ -63,7 +63,7 @@ clear_at f (x ∷ xs) i (suc k) d e h =
 pub clear_first : (c : Check) (cs : List Check) → Ok tt ≡ clear (c ∷ cs) → (c.0 ≡ false) × (Ok tt ≡ clear cs)
 clear_first c cs e =
     elim c.0 as (λ b. Ok tt ≡ cond b (Err c.1) (clear cs) → (b ≡ false) × (Ok tt ≡ clear cs))
-    [ true ↦ λ h. (let z : ◌≡◌ {A = ℕ} 0 1 = cc in absurd (omega arith)) | false ↦ λ h. (refl, h) ] e
+    [ true ↦ λ h. cc | false ↦ λ h. (refl, h) ] e
 
 -- checks of two layers, one after the other, the first with a value of its own
 module _ {U V : Type 0} (cs ds : List Check) (k : U) (v : V) where

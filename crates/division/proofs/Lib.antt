@@ -1,3 +1,2 @@
 pub mod Checks
-pub mod Weights
 pub mod Shares

@@ -3,10 +3,14 @@ use Rattle.std.proofs.Common.{◌≡◌, ℕ, zero, suc, ◌+◌, ◌-◌, ◌*�
 use native.Mathlib.Nat.{zero-div, div-add-mod, mul-sub, lt_of_mul-lt-mul_left, sub_self}
 use Rattle.std.specs.List.{range_with_len}
 use Rattle.std.proofs.lemmas.List.{take_all}
+use Rattle.std.proofs.lemmas.List.Sums.{sum_by_more}
 use Rattle.std.proofs.lemmas.List.FromFn.{sum_by-map-range_with_len_more, get_or-map-range_with_len}
 use Rattle.division.specs.Division.{due, part, parts_of}
 use Rattle.division.specs.Fairness.{Fair}
-use Rattle.division.proofs.Weights.{more, grows}
+
+-- what is due grows with the weights
+grows : (a s w t : ℕ) → 0 < t → a * s / t ≤ a * (s + w) / t
+grows a s w t h = grind (arith, mul-add a s w)
 
 -- the parts of the first n things sum to what is due at their weights
 upto : (a : ℕ) (ws : List ℕ) → 0 < sum ws → (n : ℕ) → n ≤ length ws → sum (map (part a ws) (range_with_len 0 n)) ≡ due a ws n
@@ -15,7 +19,7 @@ upto a ws h (suc n) l =
     let before : sum (map (part a ws) (range_with_len 0 n)) ≡ due a ws n = upto a ws h n (omega arith) in
     let step : sum (map (part a ws) (range_with_len 0 (n + 1))) ≡ sum (map (part a ws) (range_with_len 0 n)) + part a ws n = sum_by-map-range_with_len_more (λ x. x) (part a ws) 0 n n (omega arith) in
     let less : n < length ws = omega arith in
-    let rises : due a ws n ≤ due a ws (n + 1) = rw (more ws n less) (grows a (sum (take n ws)) (get_or ws n 0) (sum ws) h) in
+    let rises : due a ws n ≤ due a ws (n + 1) = rw (sum_by_more (λ x. x) ws n 0 less) (grows a (sum (take n ws)) (get_or ws n 0) (sum ws) h) in
     let now : sum (map (part a ws) (range_with_len 0 (n + 1))) ≡ due a ws (n + 1) = omega (arith, before, step, rises) in
     rw add-one at now
 
@@ -42,7 +46,7 @@ capped a s w t h l =
     omega arith
 
 at_place : (a : ℕ) (ws : List ℕ) (k : ℕ) → k < length ws → get_or (parts_of a ws) k 0 ≡ one a (sum (take k ws)) (get_or ws k 0) (sum ws)
-at_place a ws k l = get_or-map-range_with_len (part a ws) 0 (length ws) k k 0 l (omega arith) ∙ rw (more ws k l)
+at_place a ws k l = get_or-map-range_with_len (part a ws) 0 (length ws) k k 0 l (omega arith) ∙ rw (sum_by_more (λ x. x) ws k 0 l)
 
 pub fair : (a : ℕ) (ws : List ℕ) → 0 < sum ws → Fair a ws (parts_of a ws)
 fair a ws h =

@@ -1,5 +1,5 @@
 -- What a refusal tells, and what an answer is in those terms.
-use Rattle.std.specs.Prelude.{ℕ, ◌+◌, Bool, cond, List, [], ◌∷◌, ◌++◌, Ok, Err, Result}
+use Rattle.std.specs.Prelude.{ℕ, ◌+◌, Bool, cond, List, [], ◌∷◌, ◌++◌, Ok, Err, codes, Result}
 use Rattle.division.specs.declared.refusals.Layer.{Layer}
 use Rattle.division.specs.declared.refusals.Layer.TheVariants.{Division, Contribution, House, Book, Sheet}
 use Rattle.division.specs.declared.refusals.Refusal.{Refusal}
@@ -22,6 +22,12 @@ abbrev pub refusal : Fault → Refusal
 refusal Things = by_division 25
 refusal Amount = by_division 12
 refusal NoWeight = by_division 40
+
+-- a fault in words
+abbrev pub reason : Fault → List ℕ
+reason Things = codes "more than 64 weights, or weights above 4,000,000,000 in sum"
+reason Amount = codes "the amount is above 4,000,000,000"
+reason NoWeight = codes "the weights sum to 0"
 
 -- a call's answer, its fault told as a refusal
 abbrev pub answer : {V E : Type 0} → (E → Refusal) → Result V E → Result V Refusal

@@ -33,23 +33,23 @@ fn total<T: Weighted>(things: &[T]) -> u128
     requires { length things.now ≤ 64 }
     ensures { result ≡ sum (map T.weight things.now) }
 {
-    let mut sum: u128 = 0;
-    for thing in things {
-        sum += thing.weight() as u128;
-    }
-    sum
+    things.iter().map(|thing| thing.weight() as u128).sum()
 }
 
 // What the weights come to of the amount, rounded down.
 fn due(amount: u64, weights: u64, all: u64) -> u64
-    requires { (amount ≤ 4000000000) × ((weights ≤ 4000000000) × (0 < all)) }
+    requires amount { amount ≤ 4000000000 }
+    requires weights { weights ≤ 4000000000 }
+    requires some { 0 < all }
     ensures { result ≡ amount * weights / all }
 {
     amount * weights / all
 }
 
 fn fill<T: Weighted>(amount: u64, all: u64, things: &[T], parts: &mut [u64])
-    requires limits { (amount ≤ 4000000000) × ((all ≤ 4000000000) × (0 < all)) }
+    requires amount { amount ≤ 4000000000 }
+    requires weights { all ≤ 4000000000 }
+    requires some { 0 < all }
     requires all { all ≡ sum (map T.weight things.now) }
     requires long { length parts.old ≡ length things.now }
     ensures { parts.new ≡ parts_of amount (map T.weight things.now) }

@@ -1,8 +1,10 @@
 // What can be wrong with a division.
-ghost use Rattle.std.specs.Prelude.{◌≡◌};
-ghost use Rattle.division.specs.Refusals.{refusal};
+ghost use Rattle.std.specs.Prelude.{◌≡◌, Some};
+ghost use Rattle.division.specs.Refusals.{refusal, reason};
 
 use crate::refusals::{Layer, Refusal};
+use std::error::Error;
+use std::fmt;
 
 #[derive(Clone, Copy, PartialEq, Eq, Debug)]
 pub enum Fault {
@@ -38,3 +40,23 @@ impl From<Fault> for Refusal {
         fault.refusal()
     }
 }
+
+// The reason in words.
+impl fmt::Display for Fault {
+    ghost output = { λ fault. Some (reason fault) };
+
+    fn fmt<W: fmt::Write>(&self, f: &mut fmt::Formatter<W>) -> fmt::Result {
+        match *self {
+            Fault::Things => {
+                write!(
+                    f,
+                    "more than 64 weights, or weights above 4,000,000,000 in sum"
+                )
+            }
+            Fault::Amount => write!(f, "the amount is above 4,000,000,000"),
+            Fault::NoWeight => write!(f, "the weights sum to 0"),
+        }
+    }
+}
+
+impl Error for Fault {}

@@ -1,6 +1,9 @@
 // What a refusal tells, whichever layer made it.
-ghost use Rattle.std.specs.Prelude.{◌≡◌};
+ghost use Rattle.std.specs.Prelude.{◌≡◌, Some};
+ghost use Rattle.std.proofs.Math.Utf8.{encode};
 ghost use Rattle.division.specs.Refusals.{letter};
+
+use std::fmt;
 
 // The layers of the ledger, each with its letter in what is printed.
 #[derive(Clone, Copy, PartialEq, Eq, Debug)]
@@ -23,6 +26,16 @@ impl Layer {
             Layer::Book => 'b',
             Layer::Sheet => 's',
         }
+    }
+}
+
+// A layer is printed as its letter.
+impl fmt::Display for Layer {
+    ghost output = { λ layer. Some (encode (letter layer)) };
+
+    fn fmt<W: fmt::Write>(&self, f: &mut fmt::Formatter<W>) -> fmt::Result {
+        let letter = self.letter();
+        write!(f, "{letter}")
     }
 }
 
