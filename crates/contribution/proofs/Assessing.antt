@@ -2,6 +2,7 @@
 use Rattle.std.proofs.Common.{◌≡◌, ℕ, zero, suc, ◌+◌, ◌-◌, ◌*◌, ◌<◌, ◌≤◌, Bool, true, false, cond, not, ◌||◌, ltb, List, [], ◌∷◌, ◌++◌, map, length, get_or, take, replicate, pos, ◌-ℤ◌, ◌*ℤ◌, is_some, Some, Ok, Err, sum_by, sym, refl, ap, ◌∙◌, inl, inr, zero-add, arith}
 use mathlib.Core.Path.{fun_ext}
 use lib.ListN.{length-replicate}
+use Rattle.std.specs.List.{position_from}
 use Rattle.std.specs.Str.{bytes_eq}
 use Rattle.std.proofs.lemmas.List.{get_or-take, get_or_default, same_lists, get_or_append_left, get_or-append_right, get_or-map, get_or-replicate, length-map, length-append, length-take}
 use Rattle.std.proofs.lemmas.List.Sums.{sum_by-cons}
@@ -15,10 +16,10 @@ use Rattle.contribution.specs.declared.terms.Trade.{Trade}
 use Rattle.contribution.specs.declared.positions.Position.{Position}
 use Rattle.contribution.specs.declared.assessments.Assessment.{Assessment}
 use Rattle.contribution.specs.Refusals.{by_contribution}
-use Rattle.contribution.specs.Isins.{well_formed, place_from, place}
+use Rattle.contribution.specs.Isins.{well_formed, place}
 use Rattle.contribution.specs.Checks.{priced, security_checks, securities_checks, trades_checks}
 use Rattle.contribution.specs.Steps.{value, gain, bought, sold, paid, received, provisional, calculated, rounded_up, above_zero, sumℤ, renewed}
-use Rattle.contribution.specs.Positions.{flat, position, at_risk, up, down, sum_pairs, Held, Distinct}
+use Rattle.contribution.specs.Positions.{flat, position, at_risk, up, down, sum_pairs, Distinct}
 use Rattle.contribution.specs.Contribution.{checks, positions, assessment}
 use Rattle.contribution.proofs.Walks.{no_security}
 use Rattle.contribution.proofs.Integers.{size, cut, times, sums_apart}
@@ -28,12 +29,12 @@ cleared : (before : List Security) (i : ℕ) (s : Security) → Ok tt ≡ clear 
 cleared before i s e = go (well_formed s.isin.bytes) (priced s) (is_some (place before s.isin.bytes)) e where
   go : (a b c : Bool) → Ok tt ≡ clear ((not a, by_contribution 13 i) ∷ (not b, by_contribution 14 i) ∷ (c, by_contribution 15 i) ∷ []) → (b ≡ true) × (c ≡ false)
   go true true false e = (refl, refl)
-  go true true true e = let z : ◌≡◌ {A = ℕ} 0 1 = cc in absurd (omega arith)
-  go true false c e = let z : ◌≡◌ {A = ℕ} 0 1 = cc in absurd (omega arith)
-  go false b c e = let z : ◌≡◌ {A = ℕ} 0 1 = cc in absurd (omega arith)
+  go true true true e = cc
+  go true false c e = cc
+  go false b c e = cc
 
 -- an ISIN without a place is nobody's
-absent : (ss : List Security) (i : ℕ) (isin : List ℕ) → is_some (place_from i ss isin) ≡ false → (j : ℕ) (d : Security) → j < length ss → bytes_eq (get_or ss j d).isin.bytes isin ≡ false
+absent : (ss : List Security) (i : ℕ) (isin : List ℕ) → is_some (position_from (λ s. bytes_eq s.isin.bytes isin) i ss) ≡ false → (j : ℕ) (d : Security) → j < length ss → bytes_eq (get_or ss j d).isin.bytes isin ≡ false
 absent [] i isin e j d h = absurd (omega arith)
 absent (s ∷ ss) i isin e zero d h =
     elim (cases_Bool (bytes_eq s.isin.bytes isin)) [ inl t ↦ absurd (both_ways _ e (ap is_some (cond-true _ (Some i) _ t))) | inr t ↦ t ]
@@ -54,18 +55,10 @@ module _ (ss : List Security) (e : Ok tt ≡ clear (securities_checks ss)) where
   distinct j k d l h =
       rw (get_or-take k ss j d l) at (absent (take k ss) 0 (get_or ss k d).isin.bytes (at k d h).1 j d (rw length-take (omega arith)))
 
--- the sums over securities and their positions
-pairs_held : (f : Security → Position → ℕ) (q : Security → Position) (ss : List Security) (ps : List Position) → length ss ≤ length ps →
-    ((k : ℕ) (d : Security) → k < length ss → get_or ps k flat ≡ q (get_or ss k d)) → sum_pairs f ss ps ≡ sum_by (λ s. f s (q s)) ss
-pairs_held f q [] ps l h = refl
-pairs_held f q (s ∷ ss) [] l h = absurd (omega arith)
-pairs_held f q (s ∷ ss) (p ∷ ps) l h =
-    let here : p ≡ q s = h 0 s (omega arith) in
-    let rest : sum_pairs f ss ps ≡ sum_by (λ s. f s (q s)) ss = pairs_held f q ss ps (omega arith) (λ k d m. h (suc k) d (omega arith)) in
-    rw (here, rest) (sym (sum_by-cons (λ s. f s (q s)) s ss))
-
-pairs : (f : Security → Position → ℕ) (ss : List Security) (ts : List Trade) (ps : List Position) → length ss ≤ length ps → Held ss ts ps → sum_pairs f ss ps ≡ sum_by (λ s. f s (position s ts)) ss
-pairs f ss ts ps l h = pairs_held f (λ s. position s ts) ss ps l h.held
+-- the sums over securities and their positions, rest standing past them
+pairs : (f : Security → Position → ℕ) (ss : List Security) (ts : List Trade) (rest : List Position) → sum_pairs f ss (map (λ s. position s ts) ss ++ rest) ≡ sum_by (λ s. f s (position s ts)) ss
+pairs f [] ts rest = refl
+pairs f (s ∷ ss) ts rest = rw (pairs f ss ts rest) (sym (sum_by-cons (λ s. f s (position s ts)) s ss))
 
 -- V × R × E and G × E by the sums that are kept apart
 valued : (ts : List Trade) (s : Security) → value s ts * s.risk * s.rate ≡ at_risk s (position s ts)
@@ -90,52 +83,31 @@ provisional_is ss ts =
     let rise : above_zero (sumℤ (λ s. gain s ts *ℤ pos s.rate) ss) ≡ sum_by u ss - sum_by d ss = ap above_zero (sums_apart (λ s. gain s ts *ℤ pos s.rate) u d (gained ts) ss) ∙ cut (sum_by u ss) (sum_by d ss) in
     ap (λ n. rounded_up (n + 10000 * above_zero (sumℤ (λ s. gain s ts *ℤ pos s.rate) ss))) risk ∙ ap (λ n. rounded_up (sum_by (λ s. at_risk s (position s ts)) ss + 10000 * n)) rise
 
--- sums over the positions that were tallied give WW
-pub summed_up : (ss : List Security) (ts : List Trade) (ps : List Position) (risk u d w : ℕ) → length ss ≤ length ps → Held ss ts ps →
-    risk ≡ sum_pairs at_risk ss ps → u ≡ sum_pairs up ss ps → d ≡ sum_pairs down ss ps → w ≡ rounded_up (risk + 10000 * (u - d)) → w ≡ provisional ss ts
-summed_up ss ts ps risk u d w l h er eu ed ew =
-    let r = er ∙ pairs at_risk ss ts ps l h in
-    let x = eu ∙ pairs up ss ts ps l h in
-    let y = ed ∙ pairs down ss ts ps l h in
-    ew ∙ rw (r, x, y) (sym (provisional_is ss ts))
+-- sums over the positions give WW
+pub summed_up : (n : ℕ) (ss : List Security) (ts : List Trade) (ps : List Position) → ps ≡ positions n ss ts →
+    rounded_up (sum_pairs at_risk ss ps + 10000 * (sum_pairs up ss ps - sum_pairs down ss ps)) ≡ provisional ss ts
+summed_up n ss ts ps e =
+    let rest = replicate (n - length ss) flat in
+    rw (e, pairs at_risk ss ts rest, pairs up ss ts rest, pairs down ss ts rest) (sym (provisional_is ss ts))
 
 -- the checks in their order, for lists that are not too long
 module _ {V : Type 0} (a b : ℕ) (ss : List Security) (ts : List Trade) (v : V) (few : (ltb a (length ss) || ltb b (length ts)) ≡ false) where
   counted : checked (checks a b ss ts) v ≡ checked (securities_checks ss ++ (trades_checks ss ts ++ ((ltb 1000000000 (calculated ss ts), by_contribution 20 0) ∷ []))) v
   counted = cond-false _ _ _ few
 
-  pub by_securities : (r : Refusal) → Err r ≡ clear (securities_checks ss) → Err r ≡ checked (checks a b ss ts) v
-  by_securities r e = sym (counted ∙ checked_off (securities_checks ss) _ v r (sym e))
+  pub by_securities : (r : Refusal) → clear (securities_checks ss) ≡ Err r → Err r ≡ checked (checks a b ss ts) v
+  by_securities r e = sym (counted ∙ checked_off (securities_checks ss) _ v r e)
 
-  module _ (sound : Ok tt ≡ clear (securities_checks ss)) where
+  module _ (sound : clear (securities_checks ss) ≡ Ok tt) where
     pub by_trades : (r : Refusal) → Err r ≡ clear (trades_checks ss ts) → Err r ≡ checked (checks a b ss ts) v
-    by_trades r e = sym (counted ∙ checked_on (securities_checks ss) _ v (sym sound) ∙ checked_off (trades_checks ss ts) _ v r (sym e))
+    by_trades r e = sym (counted ∙ checked_on (securities_checks ss) _ v sound ∙ checked_off (trades_checks ss ts) _ v r (sym e))
 
     module _ (traded : Ok tt ≡ clear (trades_checks ss ts)) where
       by_height : checked (checks a b ss ts) v ≡ cond (ltb 1000000000 (calculated ss ts)) (Err (by_contribution 20 0)) (Ok v)
-      by_height = counted ∙ checked_on (securities_checks ss) _ v (sym sound) ∙ checked_on (trades_checks ss ts) _ v (sym traded)
+      by_height = counted ∙ checked_on (securities_checks ss) _ v sound ∙ checked_on (trades_checks ss ts) _ v (sym traded)
 
-      pub too_high : (w : ℕ) → w ≡ calculated ss ts → 1000000000 < w → Err (by_contribution 20 0) ≡ checked (checks a b ss ts) v
-      too_high w e h = sym (by_height ∙ cond-true _ _ _ (lt-ltb 1000000000 (calculated ss ts) (rw e at h)))
+      pub too_high : 1000000000 < calculated ss ts → Err (by_contribution 20 0) ≡ checked (checks a b ss ts) v
+      too_high h = sym (by_height ∙ cond-true _ _ _ (lt-ltb 1000000000 (calculated ss ts) h))
 
-      pub accepted : (w : ℕ) → w ≡ calculated ss ts → w ≤ 1000000000 → Ok v ≡ checked (checks a b ss ts) v
-      accepted w e h = sym (by_height ∙ cond-false _ _ _ (le-ltb 1000000000 (calculated ss ts) (rw e at h)))
-
--- the list of positions, read as a whole
-pub whole_list : (n : ℕ) (ss : List Security) (ts : List Trade) (ps : List Position) → length ps ≡ n → length ss ≤ n → Held ss ts ps → ps ≡ positions n ss ts
-whole_list n ss ts ps l h held =
-    same_lists ps (positions n ss ts) (l ∙ sym long) (λ k d m. elim (cases_lt k (length ss)) [
-      | inl i ↦ get_or_default ps k d flat m ∙ held.held k no_security i ∙ sym (get_or_append_left (map (λ s. position s ts) ss) _ d k (rw length-map i) ∙ get_or-map (λ s. position s ts) ss k no_security d i)
-      | inr i ↦ get_or_default ps k d flat m ∙ held.past k i ∙ sym (get_or-append_right (map (λ s. position s ts) ss) _ (length ss) k d (length-map ss _) i ∙ get_or-replicate (n - length ss) (k - length ss) flat d (omega arith))
-    ]) where
-      long : length (positions n ss ts) ≡ n
-      long = simp (length-append, length-map, length-replicate) (omega arith)
-
-pub all_flat : (n k : ℕ) → get_or (replicate n flat) k flat ≡ flat
-all_flat zero k = refl
-all_flat (suc n) zero = refl
-all_flat (suc n) (suc k) = all_flat n k
-
-pub as_assessed : (ss : List Security) (ts : List Trade) (m : ℕ) (ps : List Position) (p q r : ℕ) → ps ≡ positions 64 ss ts → p ≡ provisional ss ts → q ≡ calculated ss ts → r ≡ renewed q m →
-    ◌≡◌ {A = Assessment} (record { positions = ps; provisional = p; calculated = q; required = r }) (assessment ss ts m)
-as_assessed ss ts m ps p q r es ep eq er = rw (er, es, ep, eq)
+      pub accepted : calculated ss ts ≤ 1000000000 → Ok v ≡ checked (checks a b ss ts) v
+      accepted h = sym (by_height ∙ cond-false _ _ _ (le-ltb 1000000000 (calculated ss ts) h))

@@ -20,7 +20,7 @@ use Rattle.contribution.specs.Isins.{well_formed, place}
 use Rattle.contribution.specs.Checks.{dealt, price_at, trade_checks, trades_checks, securities_checks}
 use Rattle.contribution.specs.Steps.{in_security, bought, sold, paid, received, net, value, gain, sumℤ, above_zero, rounded_up, provisional, calculated, renewed, distance}
 use Rattle.contribution.specs.Positions.{position, at_risk, up, down}
-use Rattle.contribution.specs.Contribution.{checks, assessment, verdict}
+use Rattle.contribution.specs.Contribution.{all_checks, assessment, verdict}
 use Rattle.contribution.specs.Laws.{on_side, Sound}
 use Rattle.contribution.proofs.Assessing.{accepted, provisional_is}
 
@@ -31,10 +31,10 @@ anywhere ss i j t e = go (not (well_formed t.isin.bytes)) (not (dealt t)) (not (
       go : (a b c d : Bool) → Ok tt ≡ clear ((a, by_contribution 13 i) ∷ (b, by_contribution 16 i) ∷ (c, by_contribution 17 i) ∷ (d, by_contribution 18 i) ∷ []) →
           Ok tt ≡ clear ((a, by_contribution 13 j) ∷ (b, by_contribution 16 j) ∷ (c, by_contribution 17 j) ∷ (d, by_contribution 18 j) ∷ [])
       go false false false false e = refl
-      go false false false true e = let z : ◌≡◌ {A = ℕ} 0 1 = cc in absurd (omega arith)
-      go false false true d e = let z : ◌≡◌ {A = ℕ} 0 1 = cc in absurd (omega arith)
-      go false true c d e = let z : ◌≡◌ {A = ℕ} 0 1 = cc in absurd (omega arith)
-      go true b c d e = let z : ◌≡◌ {A = ℕ} 0 1 = cc in absurd (omega arith)
+      go false false false true e = cc
+      go false false true d e = cc
+      go false true c d e = cc
+      go true b c d e = cc
 
 each_passes : (ss : List Security) (i : ℕ) (ts : List Trade) → Ok tt ≡ clear (each_from (trade_checks ss) i ts) → All (λ t. Ok tt ≡ clear (trade_checks ss 0 t)) ts
 each_passes ss i [] e = tt
@@ -53,7 +53,7 @@ record Passed (ss : List Security) (ts : List Trade) : Type 0 where
   trades : Ok tt ≡ clear (trades_checks ss ts)
   height : calculated ss ts ≤ 1000000000
 
-passed : (ss : List Security) (ts : List Trade) → Ok tt ≡ clear (checks 64 128 ss ts) → Passed ss ts
+passed : (ss : List Security) (ts : List Trade) → Ok tt ≡ clear (all_checks ss ts) → Passed ss ts
 passed ss ts e =
     let last = (ltb 1000000000 (calculated ss ts), by_contribution 20 0) ∷ [] in
     let counts = clear_first (ltb 64 (length ss) || ltb 128 (length ts), by_contribution 19 0) (securities_checks ss ++ (trades_checks ss ts ++ last)) e in
@@ -122,7 +122,7 @@ renews w m ne =
 
 pub sound : (ss : List Security) (ts : List Trade) (m : ℕ) (a : Assessment) → Ok a ≡ verdict ss ts m → Sound ss ts m a
 sound ss ts m a e =
-    let is = checked_made (checks 64 128 ss ts) (assessment ss ts m) a tt e in
+    let is = checked_made (all_checks ss ts) (assessment ss ts m) a tt e in
     let p = passed ss ts is.1 in
     rw is.0 (record {
       least = omega arith;
@@ -130,6 +130,6 @@ sound ss ts m a e =
       moved = renews (calculated ss ts) m;
       order = λ us same.
           (let q = passes_alike ss ts us same p in
-          sym (accepted 64 128 ss us (assessment ss us m) q.few q.securities q.trades (calculated ss us) refl q.height) ∙ ap Ok (assessed_alike ss ts us same m));
+          sym (accepted 64 128 ss us (assessment ss us m) q.few (sym q.securities) q.trades q.height) ∙ ap Ok (assessed_alike ss ts us same m));
       offset = offset ss ts;
     })

@@ -1,31 +1,41 @@
 -- One trade more in the position of its security, and in no other.
-use Rattle.std.proofs.Common.{◌≡◌, ℕ, suc, ◌+◌, ◌-◌, ◌*◌, ◌^◌, ◌<◌, ◌≤◌, true, false, ◌≢◌, List, [], ◌∷◌, length, get_or, take, set, Some, sym, ap, ◌∙◌, inl, inr, add-zero, arith, get_or-set_other, get_or-set_same}
+use Rattle.std.proofs.Common.{◌≡◌, ℕ, suc, ◌+◌, ◌-◌, ◌*◌, ◌^◌, ◌<◌, ◌≤◌, Bool, true, false, ◌≢◌, List, [], ◌∷◌, ◌++◌, map, length, get_or, take, replicate, set, Some, sym, ap, ◌∙◌, inl, inr, add-zero, arith, get_or-set_other, get_or-set_same}
 use native.Mathlib.Nat.{sub-zero}
+use Rattle.std.specs.List.{position_from}
 use Rattle.std.specs.Str.{bytes_eq}
+use lib.ListN.{length-replicate}
+use Rattle.std.proofs.lemmas.List.{get_or_default, same_lists, get_or_append_left, get_or-append_right, get_or-map, get_or-replicate, length-map, length-append}
 use Rattle.std.proofs.lemmas.Slice.Eq.{bytes_eq-Decides}
 use Rattle.std.proofs.lemmas.List.Sums.{sum_by_more}
-use Rattle.std.proofs.lemmas.Bool.{cases_order, cases_Bool, cases_eq, both_ways}
+use Rattle.std.proofs.lemmas.Bool.{cases_order, cases_Bool, cases_eq, cases_lt, both_ways}
 use Rattle.contribution.specs.declared.terms.Security.{Security}
 use Rattle.contribution.specs.declared.terms.Side.{Side}
 use Rattle.contribution.specs.declared.terms.Side.TheVariants.{Bought, Sold}
 use Rattle.contribution.specs.declared.terms.Trade.{Trade}
 use Rattle.contribution.specs.declared.positions.Position.{Position}
-use Rattle.contribution.specs.Isins.{place_from, place}
+use Rattle.contribution.specs.Isins.{place}
 use Rattle.contribution.specs.Steps.{in_security, by_side, bought, sold, paid, received}
-use Rattle.contribution.specs.Positions.{flat, position, added, Few, Distinct, Held}
+use Rattle.contribution.specs.Positions.{flat, position, added, Few, Distinct}
+use Rattle.contribution.specs.Contribution.{positions}
 use Rattle.contribution.proofs.Bounds.{Deal}
+use Rattle.contribution.proofs.Walks.{no_security}
 
--- an ISIN's place has that ISIN
-at_place : (ss : List Security) (i k : ℕ) (isin : List ℕ) (d : Security) → place_from i ss isin ≡ Some k → (i ≤ k) × (bytes_eq (get_or ss (k - i) d).isin.bytes isin ≡ true)
-at_place [] i k isin d e = let z : ◌≡◌ {A = ℕ} 0 1 = cc in absurd (omega arith)
-at_place (s ∷ ss) i k isin d e =
-    elim (cases_Bool (bytes_eq s.isin.bytes isin)) [
+-- the positions in the securities, in their order, and none past them
+pub record Held (ss : List Security) (ts : List Trade) (ps : List Position) : Type 0 where
+  pub held : (k : ℕ) (d : Security) → k < length ss → get_or ps k flat ≡ position (get_or ss k d) ts
+  pub past : (k : ℕ) → length ss ≤ k → get_or ps k flat ≡ flat
+
+-- what is found passes the test
+found : {X : Type 0} (test : X → Bool) (xs : List X) (i k : ℕ) (d : X) → position_from test i xs ≡ Some k → (i ≤ k) × (test (get_or xs (k - i) d) ≡ true)
+found test [] i k d e = cc
+found test (x ∷ xs) i k d e =
+    elim (cases_Bool (test x)) [
       | inl t ↦ (let f : Some i ≡ Some k = simp t at e in let g : i ≡ k = cc in let z : k - i ≡ 0 = omega arith in (omega arith, rw z t))
-      | inr t ↦ (let f : place_from (i + 1) ss isin ≡ Some k = simp t at e in let r = at_place ss (i + 1) k isin d f in let z : k - i ≡ suc (k - (i + 1)) = omega arith in (omega arith, rw z r.1))
+      | inr t ↦ (let f : position_from test (i + 1) xs ≡ Some k = simp t at e in let r = found test xs (i + 1) k d f in let z : k - i ≡ suc (k - (i + 1)) = omega arith in (omega arith, rw z r.1))
     ]
 
 pub placed_in : (ss : List Security) (t : Trade) (k : ℕ) (d : Security) → place ss t.isin.bytes ≡ Some k → in_security (get_or ss k d) t ≡ true
-placed_in ss t k d e = rw sub-zero at (at_place ss 0 k t.isin.bytes d e).1
+placed_in ss t k d e = rw sub-zero at (found (λ s. bytes_eq s.isin.bytes t.isin.bytes) ss 0 k d e).1
 
 -- of distinct securities a trade is in one only
 pub elsewhere : (ss : List Security) (t : Trade) (j k : ℕ) (d : Security) → Distinct ss → j < length ss → k < length ss → j ≢ k →
@@ -90,3 +100,13 @@ module _ (ss : List Security) (ts : List Trade) (ps : List Position) (i k : ℕ)
         | inl e ↦ rw (e, get_or-set_same ps k p flat (omega arith), new) (few_more i (get_or ps k flat) (get_or ts i t) (few k hk) deal)
         | inr ne ↦ rw (get_or-set_other ps k j p flat ne) (few_wider i (i + 1) (get_or ps j flat) (omega arith) (few j l))
       ]
+
+-- the list of positions, read as a whole
+pub whole_list : (n : ℕ) (ss : List Security) (ts : List Trade) (ps : List Position) → length ps ≡ n → length ss ≤ n → Held ss ts ps → ps ≡ positions n ss ts
+whole_list n ss ts ps l h held =
+    same_lists ps (positions n ss ts) (l ∙ sym long) (λ k d m. elim (cases_lt k (length ss)) [
+      | inl i ↦ get_or_default ps k d flat m ∙ held.held k no_security i ∙ sym (get_or_append_left (map (λ s. position s ts) ss) _ d k (rw length-map i) ∙ get_or-map (λ s. position s ts) ss k no_security d i)
+      | inr i ↦ get_or_default ps k d flat m ∙ held.past k i ∙ sym (get_or-append_right (map (λ s. position s ts) ss) _ (length ss) k d (length-map ss _) i ∙ get_or-replicate (n - length ss) (k - length ss) flat d (omega arith))
+    ]) where
+      long : length (positions n ss ts) ≡ n
+      long = simp (length-append, length-map, length-replicate) (omega arith)

@@ -17,7 +17,11 @@ checks securities trades ss ts =
     (nat_lt securities (length ss) || nat_lt trades (length ts), by_contribution 19 0)
     ∷ (securities_checks ss ++ (trades_checks ss ts ++ ((nat_lt 1000000000 (calculated ss ts), by_contribution 20 0) ∷ [])))
 
--- the positions in the securities, in their order, in a list of n
+-- within the clearing house's limits
+abbrev pub all_checks : List Security → List Trade → List Check
+all_checks ss ts = checks 64 128 ss ts
+
+-- the positions in the securities, in their order and flat past them, in a list of n
 abbrev pub positions : ℕ → List Security → List Trade → List Position
 positions n ss ts = map (λ s. position s ts) ss ++ replicate (n - length ss) flat
 
@@ -31,4 +35,4 @@ assessment ss ts m =
     }
 
 abbrev pub verdict : List Security → List Trade → ℕ → Result Assessment Refusal
-verdict ss ts m = checked (checks 64 128 ss ts) (assessment ss ts m)
+verdict ss ts m = checked (all_checks ss ts) (assessment ss ts m)

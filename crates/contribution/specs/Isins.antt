@@ -1,5 +1,6 @@
 -- The form of an ISIN, and the security that an ISIN names.
-use Rattle.std.specs.Prelude.{ℕ, ◌+◌, Bool, true, cond, ◌&&◌, ◌||◌, List, [], ◌∷◌, Some, None, Option, nat_le, nat_lt}
+use Rattle.std.specs.Prelude.{ℕ, ◌+◌, Bool, true, cond, ◌&&◌, ◌||◌, List, [], ◌∷◌, Option, nat_le, nat_lt}
+use Rattle.std.specs.List.{position_from}
 use Rattle.std.specs.Str.{bytes_eq}
 use Rattle.contribution.specs.declared.terms.Security.{Security}
 
@@ -20,10 +21,6 @@ stand_from i (b ∷ bs) = stands i b && stand_from (i + 1) bs
 abbrev pub well_formed : List ℕ → Bool
 well_formed bs = stand_from 0 bs
 
--- where the first security with the ISIN stands, counted from i
-abbrev pub place_from : ℕ → List Security → List ℕ → Option ℕ
-place_from i [] isin = None
-place_from i (s ∷ ss) isin = cond (bytes_eq s.isin.bytes isin) (Some i) (place_from (i + 1) ss isin)
-
+-- where the first security with the ISIN stands
 abbrev pub place : List Security → List ℕ → Option ℕ
-place ss isin = place_from 0 ss isin
+place ss isin = position_from (λ s. bytes_eq s.isin.bytes isin) 0 ss

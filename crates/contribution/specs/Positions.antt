@@ -1,5 +1,5 @@
 -- What the trades of a member come to in one security, each sum apart.
-use Rattle.std.specs.Prelude.{◌≡◌, ℕ, ◌+◌, ◌*◌, ◌^◌, ◌<◌, ◌≤◌, false, List, [], ◌∷◌, length, get_or, sum_by, slice_index_or}
+use Rattle.std.specs.Prelude.{◌≡◌, ℕ, ◌+◌, ◌*◌, ◌^◌, ◌<◌, ◌≤◌, false, List, [], ◌∷◌, length, get_or, sum_by}
 use Rattle.std.specs.Str.{bytes_eq}
 use Rattle.contribution.specs.declared.terms.Security.{Security}
 use Rattle.contribution.specs.declared.terms.Trade.{Trade}
@@ -53,8 +53,3 @@ pub record Few (n : ℕ) (p : Position) : Type 0 where
 -- no two securities have the same ISIN
 abbrev pub Distinct : List Security → Type 0
 Distinct ss = (j k : ℕ) (d : Security) → j < k → k < length ss → bytes_eq (get_or ss j d).isin.bytes (get_or ss k d).isin.bytes ≡ false
-
--- the positions in the securities, in their order, and none past them
-pub record Held (ss : List Security) (ts : List Trade) (ps : List Position) : Type 0 where
-  pub held : (k : ℕ) (d : Security) → k < length ss → slice_index_or ps k flat ≡ position (slice_index_or ss k d) ts
-  pub past : (k : ℕ) → length ss ≤ k → slice_index_or ps k flat ≡ flat

@@ -1,17 +1,17 @@
 // The contribution: securities and trades checked, summed and brought to what a member must contribute.
-ghost use Rattle.std.specs.Prelude.{◌≡◌, ℕ, ◌+◌, ◌-◌, ◌*◌, ◌^◌, ◌≤◌, length, IfOk, OnOk, slice_index_or};
+ghost use Rattle.std.specs.Prelude.{◌≡◌, ℕ, ◌+◌, ◌-◌, ◌*◌, ◌^◌, ◌≤◌, length, IfOk, OnOk};
 ghost use Rattle.division.specs.Refusals.{answer, checked};
 ghost use Rattle.contribution.specs.Refusals.{refusal};
 ghost use Rattle.contribution.specs.Steps.{provisional, calculated, rounded_up, renewed};
-ghost use Rattle.contribution.specs.Positions.{flat, Held};
 ghost use Rattle.contribution.specs.Contribution.{checks, verdict};
+ghost use Rattle.contribution.specs.Contribution as contribution;
 ghost use Rattle.contribution.specs.Laws.{Sound};
 
 use crate::assessments::Assessment;
-use crate::checks::check_securities;
+use crate::checks::Listed;
 use crate::faults::Fault;
 use crate::positions::Position;
-use crate::sums::{Sums, summed, tally};
+use crate::sums::Sums;
 use crate::terms::{Security, Trade};
 
 // The least that a member contributes.
@@ -22,7 +22,8 @@ const HIGHEST: u128 = 1_000_000_000;
 
 // WW: one maximum and one rounding.
 fn provisional(sums: Sums) -> u128
-    requires { (sums.risk ≤ 10 ^ 33) × (sums.up ≤ 10 ^ 30) }
+    requires risk { sums.risk ≤ 10 ^ 33 }
+    requires up { sums.up ≤ 10 ^ 30 }
     ensures { result ≡ rounded_up (sums.risk + 10000 * (sums.up - sums.down)) }
 {
     (sums.risk + 10_000 * sums.up.saturating_sub(sums.down)).div_ceil(100_000_000)
@@ -46,24 +47,23 @@ struct Limits {
     trades: u16,
 }
 
-// WW and W for lists within the limits; the positions are left in the caller's list, which is flat at first.
+// WW and W for lists within the limits; the positions are left in the caller's list.
 fn assess(
     limits: Limits,
     securities: &[Security],
     trades: &[Trade],
     positions: &mut [Position],
 ) -> Result<(u64, u64), Fault>
-    requires room { limits.securities ≤ length positions.old }
-    requires flat { (k : ℕ) → slice_index_or positions.old k flat ≡ flat }
+    requires { limits.securities ≤ length positions.old }
     ensures answer { answer refusal result ≡ checked (checks limits.securities limits.trades securities.now trades.now) (provisional securities.now trades.now, calculated securities.now trades.now) }
-    ensures held { OnOk result ((length securities.now ≤ limits.securities) × Held securities.now trades.now positions.new) }
+    ensures positions { OnOk result (positions.new ≡ contribution.positions (length positions.old) securities.now trades.now) }
 {
     if securities.len() > limits.securities as usize || trades.len() > limits.trades as usize {
         return Err(Fault::TooMany);
     }
-    check_securities(securities)?;
-    tally(securities, trades, positions)?;
-    let provisional = provisional(summed(securities, positions));
+    let listed = Listed::check(securities)?;
+    listed.tally(trades, positions)?;
+    let provisional = provisional(listed.summed(positions));
     let calculated = provisional.max(MINIMUM as u128);
     if calculated > HIGHEST {
         return Err(Fault::TooHigh);

@@ -1,11 +1,12 @@
 // The checks of securities and trades: the first fault in their order, with its position.
-ghost use Rattle.std.specs.Prelude.{◌≡◌, ℕ, ◌<◌, ◌≤◌, true, length, take, IfOk, Some, slice_index_or};
+ghost use Rattle.std.specs.Prelude.{◌≡◌, ℕ, ◌<◌, ◌≤◌, true, length, take, IfOk, IfErr, Some, Ok, Err, slice_index_or};
 ghost use Rattle.std.specs.Option.{unwrap_or};
 ghost use Rattle.division.specs.Refusals.{answer, checked, clear};
 ghost use Rattle.contribution.specs.Refusals.{refusal};
 ghost use Rattle.contribution.specs.declared.terms.Security.{Security};
 ghost use Rattle.contribution.specs.Isins.{place};
 ghost use Rattle.contribution.specs.Checks.{priced, dealt, security_checks, securities_checks, trade_checks};
+ghost use Rattle.contribution.specs.Positions.{Distinct};
 
 use crate::faults::Fault;
 use crate::isins::place_of;
@@ -48,34 +49,49 @@ fn check_security(securities: &[Security], i: usize, security: &Security) -> Res
     }
 }
 
-pub(crate) fn check_securities(securities: &[Security]) -> Result<(), Fault>
-    ensures { answer refusal result ≡ clear (securities_checks securities.now) }
-{
-    for (i, security) in securities.iter().enumerate() {
-        check_security(securities, i, security)?;
-    }
-    Ok(())
+// Securities that passed their checks.
+#[derive(Clone, Copy)]
+pub(crate) struct Listed<'a> {
+    pub(crate) securities: &'a [Security],
+    ghost few: { length securities.now ≤ 65535 },
+    ghost in_range: { (k : ℕ) (d : Security) → k < length securities.now → priced (slice_index_or securities.now k d) ≡ true },
+    ghost distinct: { Distinct securities.now },
 }
 
-// Where the trade's security stands, or the first fault of the trade.
-pub(crate) fn check_trade(securities: &[Security], i: usize, trade: &Trade) -> Result<usize, Fault>
-    requires { (k : ℕ) (d : Security) → k < length securities.now → priced (slice_index_or securities.now k d) ≡ true }
-    ensures answer { answer refusal result ≡ checked (trade_checks securities.now i trade.now) (unwrap_or (place securities.now trade.now.isin.bytes) 0) }
-    ensures found { IfOk result (λ k. (place securities.now trade.now.isin.bytes ≡ Some k) × (k < length securities.now) × (dealt trade.now ≡ true)) }
-{
-    if !trade.isin.is_well_formed() {
-        return Err(Fault::Isin(i));
+impl<'a> Listed<'a> {
+    pub(crate) fn check(securities: &'a [Security]) -> Result<Listed<'a>, Fault>
+        requires { length securities.now ≤ 65535 }
+        ensures passed { IfOk result (λ listed. clear (securities_checks securities.now) ≡ Ok tt) }
+        ensures refused { IfErr result (λ fault. clear (securities_checks securities.now) ≡ Err (refusal fault)) }
+        ensures same { IfOk result (λ listed. listed.securities.now ≡ securities.now) }
+    {
+        for (i, security) in securities.iter().enumerate() {
+            check_security(securities, i, security)?;
+        }
+        Ok(Listed { securities })
     }
-    if !trade.is_dealt() {
-        return Err(Fault::Deal(i));
+
+    // Where the trade's security stands, or the first fault of the trade.
+    pub(crate) fn check_trade(&self, i: usize, trade: &Trade) -> Result<usize, Fault>
+        ensures answer { answer refusal result ≡ checked (trade_checks self.now.securities.now i trade.now) (unwrap_or (place self.now.securities.now trade.now.isin.bytes) 0) }
+        ensures found { IfOk result (λ k. place self.now.securities.now trade.now.isin.bytes ≡ Some k) }
+        ensures bound { IfOk result (λ k. k < length self.now.securities.now) }
+        ensures dealt { IfOk result (λ k. dealt trade.now ≡ true) }
+    {
+        if !trade.isin.is_well_formed() {
+            return Err(Fault::Isin(i));
+        }
+        if !trade.is_dealt() {
+            return Err(Fault::Deal(i));
+        }
+        let Some(k) = place_of(self.securities, &trade.isin) else {
+            return Err(Fault::NotListed(i));
+        };
+        let dealt = trade.quantity * trade.price;
+        let settled = trade.quantity * self.securities[k].price;
+        if dealt > LARGEST || settled > LARGEST {
+            return Err(Fault::TooLarge(i));
+        }
+        Ok(k)
     }
-    let Some(k) = place_of(securities, &trade.isin) else {
-        return Err(Fault::NotListed(i));
-    };
-    let dealt = trade.quantity * trade.price;
-    let settled = trade.quantity * securities[k].price;
-    if dealt > LARGEST || settled > LARGEST {
-        return Err(Fault::TooLarge(i));
-    }
-    Ok(k)
 }

@@ -1,8 +1,10 @@
 // What can be wrong with securities and trades, each fault with the position, from 0, of the security or the trade.
-ghost use Rattle.std.specs.Prelude.{◌≡◌};
-ghost use Rattle.contribution.specs.Refusals.{refusal};
+ghost use Rattle.std.specs.Prelude.{◌≡◌, Some};
+ghost use Rattle.contribution.specs.Refusals.{refusal, reason};
 
 use division::{Layer, Refusal};
+use std::error::Error;
+use std::fmt;
 
 #[derive(Clone, Copy, PartialEq, Eq, Debug)]
 pub enum Fault {
@@ -51,3 +53,30 @@ impl From<Fault> for Refusal {
         fault.refusal()
     }
 }
+
+// The reason in words, without the position.
+impl fmt::Display for Fault {
+    ghost output = { λ fault. Some (reason fault) };
+
+    fn fmt<W: fmt::Write>(&self, f: &mut fmt::Formatter<W>) -> fmt::Result {
+        match *self {
+            Fault::TooMany => write!(f, "more than 64 securities or more than 128 trades"),
+            Fault::Isin(_) => write!(f, "the ISIN of this security or trade is malformed"),
+            Fault::Terms(_) => {
+                write!(
+                    f,
+                    "the price, risk or rate of this security is out of its range"
+                )
+            }
+            Fault::ListedBefore(_) => write!(f, "the ISIN of this security was listed before"),
+            Fault::Deal(_) => {
+                write!(f, "the quantity or price of this trade is out of its range")
+            }
+            Fault::NotListed(_) => write!(f, "the ISIN of this trade is not listed"),
+            Fault::TooLarge(_) => write!(f, "this trade comes to more than 100,000,000"),
+            Fault::TooHigh => write!(f, "the contribution comes to more than 1,000,000,000"),
+        }
+    }
+}
+
+impl Error for Fault {}

@@ -1,6 +1,5 @@
 // The form of an ISIN, and the security that an ISIN names.
 ghost use Rattle.std.specs.Prelude.{◌≡◌, ◌<◌, length, IfSome};
-ghost use Rattle.std.specs.Str.{bytes_eq};
 ghost use Rattle.contribution.specs.Isins.{stands, well_formed, place};
 
 use crate::terms::{Isin, Security};
@@ -20,18 +19,7 @@ impl Isin {
     pub fn is_well_formed(&self) -> bool
         ensures { result ≡ well_formed self.now.bytes }
     {
-        for (i, b) in self.bytes.iter().enumerate() {
-            if !stands(i, *b) {
-                return false;
-            }
-        }
-        true
-    }
-
-    fn is(&self, other: &Isin) -> bool
-        ensures { result ≡ bytes_eq self.now.bytes other.now.bytes }
-    {
-        self.bytes == other.bytes
+        self.bytes.iter().enumerate().all(|(i, b)| stands(i, *b))
     }
 }
 
@@ -40,10 +28,7 @@ pub(crate) fn place_of(securities: &[Security], isin: &Isin) -> Option<usize>
     ensures place { result ≡ place securities.now isin.now.bytes }
     ensures bound { IfSome result (λ k. k < length securities.now) }
 {
-    for (i, security) in securities.iter().enumerate() {
-        if security.isin.is(isin) {
-            return Some(i);
-        }
-    }
-    None
+    securities
+        .iter()
+        .position(|security| security.isin == *isin)
 }

@@ -2,11 +2,11 @@
 ghost use Rattle.std.specs.Prelude.{◌≡◌, ℕ, ◌+◌, ◌*◌, ◌^◌, ◌<◌, ◌≤◌, true, length, OnOk, slice_index_or};
 ghost use Rattle.division.specs.Refusals.{answer, clear};
 ghost use Rattle.contribution.specs.Refusals.{refusal};
-ghost use Rattle.contribution.specs.declared.terms.Security.{Security};
 ghost use Rattle.contribution.specs.Checks.{dealt, priced, trades_checks};
-ghost use Rattle.contribution.specs.Positions.{flat, added, at_risk, settled, up, down, sum_pairs, Few, Distinct, Held};
+ghost use Rattle.contribution.specs.Positions.{flat, added, at_risk, settled, up, down, sum_pairs, Few};
+ghost use Rattle.contribution.specs.Contribution as contribution;
 
-use crate::checks::check_trade;
+use crate::checks::Listed;
 use crate::faults::Fault;
 use crate::positions::Position;
 use crate::terms::{Security, Side, Trade};
@@ -21,7 +21,8 @@ impl Position {
 
     // One trade more.
     fn with(self, trade: &Trade) -> Position
-        requires { (Few 65535 self) × (dealt trade.now ≡ true) }
+        requires few { Few 65535 self }
+        requires dealt { dealt trade.now ≡ true }
         ensures { result ≡ added self trade.now }
     {
         let quantity = trade.quantity;
@@ -42,7 +43,8 @@ impl Position {
 
     // The settlement value of the net quantity, by risk and rate.
     fn at_risk(self, security: &Security) -> u128
-        requires { (Few 65535 self) × (priced security.now ≡ true) }
+        requires few { Few 65535 self }
+        requires priced { priced security.now ≡ true }
         ensures value { result ≡ at_risk security.now self }
         ensures bound { result ≤ 10 ^ 28 }
     {
@@ -53,30 +55,11 @@ impl Position {
     }
 }
 
-// Checks the trades from first to last and adds each to the position in its security.
-pub(crate) fn tally(
-    securities: &[Security],
-    trades: &[Trade],
-    positions: &mut [Position],
-) -> Result<(), Fault>
-    requires counts { (length trades.now ≤ 65535) × (length securities.now ≤ length positions.old) }
-    requires flat { (k : ℕ) → slice_index_or positions.old k flat ≡ flat }
-    requires priced { (k : ℕ) (d : Security) → k < length securities.now → priced (slice_index_or securities.now k d) ≡ true }
-    requires distinct { Distinct securities.now }
-    ensures answer { answer refusal result ≡ clear (trades_checks securities.now trades.now) }
-    ensures held { OnOk result (Held securities.now trades.now positions.new) }
-    ensures few { OnOk result ((k : ℕ) → k < length securities.now → Few 65535 (slice_index_or positions.new k flat)) }
-{
-    for (i, trade) in trades.iter().enumerate() {
-        let k = check_trade(securities, i, trade)?;
-        positions[k] = positions[k].with(trade);
-    }
-    Ok(())
-}
-
 // Money, and a quantity at the settlement price, by the rate.
 fn settled(security: &Security, money: u64, quantity: u64) -> u128
-    requires { (money ≤ 65535 * 10 ^ 14) × ((quantity ≤ 65535 * 1000000) × (priced security.now ≡ true)) }
+    requires money { money ≤ 65535 * 10 ^ 14 }
+    requires quantity { quantity ≤ 65535 * 1000000 }
+    requires priced { priced security.now ≡ true }
     ensures value { result ≡ settled security.now money quantity }
     ensures bound { result ≤ 10 ^ 25 }
 {
@@ -91,23 +74,40 @@ pub(crate) struct Sums {
     pub(crate) down: u128,
 }
 
-pub(crate) fn summed(securities: &[Security], positions: &[Position]) -> Sums
-    requires counts { (length securities.now ≤ 65535) × (length securities.now ≤ length positions.now) }
-    requires few { (k : ℕ) → k < length securities.now → Few 65535 (slice_index_or positions.now k flat) }
-    requires priced { (k : ℕ) (d : Security) → k < length securities.now → priced (slice_index_or securities.now k d) ≡ true }
-    ensures risk { result.risk ≡ sum_pairs at_risk securities.now positions.now }
-    ensures up { result.up ≡ sum_pairs up securities.now positions.now }
-    ensures down { result.down ≡ sum_pairs down securities.now positions.now }
-    ensures bounds { (result.risk ≤ 10 ^ 33) × (result.up ≤ 10 ^ 30) }
-{
-    let mut risk: u128 = 0;
-    let mut up: u128 = 0;
-    let mut down: u128 = 0;
-    for (i, security) in securities.iter().enumerate() {
-        let position = positions[i];
-        risk += position.at_risk(security);
-        up += settled(security, position.paid, position.sold);
-        down += settled(security, position.received, position.bought);
+impl Listed<'_> {
+    // Checks the trades from first to last and adds each to the position in its security, all flat at first.
+    pub(crate) fn tally(&self, trades: &[Trade], positions: &mut [Position]) -> Result<(), Fault>
+        requires few { length trades.now ≤ 65535 }
+        requires room { length self.now.securities.now ≤ length positions.old }
+        ensures answer { answer refusal result ≡ clear (trades_checks self.now.securities.now trades.now) }
+        ensures positions { OnOk result (positions.new ≡ contribution.positions (length positions.old) self.now.securities.now trades.now) }
+        ensures few { OnOk result ((k : ℕ) → k < length self.now.securities.now → Few 65535 (slice_index_or positions.new k flat)) }
+    {
+        positions.fill(Position::FLAT);
+        for (i, trade) in trades.iter().enumerate() {
+            let k = self.check_trade(i, trade)?;
+            positions[k] = positions[k].with(trade);
+        }
+        Ok(())
     }
-    Sums { risk, up, down }
+
+    pub(crate) fn summed(&self, positions: &[Position]) -> Sums
+        requires room { length self.now.securities.now ≤ length positions.now }
+        requires few { (k : ℕ) → k < length self.now.securities.now → Few 65535 (slice_index_or positions.now k flat) }
+        ensures risk { result.risk ≡ sum_pairs at_risk self.now.securities.now positions.now }
+        ensures up { result.up ≡ sum_pairs up self.now.securities.now positions.now }
+        ensures down { result.down ≡ sum_pairs down self.now.securities.now positions.now }
+        ensures risk_bound { result.risk ≤ 10 ^ 33 }
+        ensures up_bound { result.up ≤ 10 ^ 30 }
+    {
+        let mut risk: u128 = 0;
+        let mut up: u128 = 0;
+        let mut down: u128 = 0;
+        for (security, position) in self.securities.iter().zip(positions) {
+            risk += position.at_risk(security);
+            up += settled(security, position.paid, position.sold);
+            down += settled(security, position.received, position.bought);
+        }
+        Sums { risk, up, down }
+    }
 }

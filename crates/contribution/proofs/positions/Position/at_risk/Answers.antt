@@ -1,20 +1,9 @@
-use Rattle.std.proofs.Common.{◌≡◌, ◌*◌, ap, arith}
-use Rattle.contribution.specs.Positions.{at_risk}
+use Rattle.std.proofs.Common.{arith}
 use Rattle.contribution.proofs.Bounds.{terms, at_risk_bound}
 use Rattle.contribution.proofs.positions.Position.at_risk.Goals as goal
-use Rattle.contribution.proofs.positions.Position.at_risk.Goals.{After-abs_diff}
-
-valued : (c : After-abs_diff) → c.abs_diff.result * c.args.security.now.price * c.args.security.now.risk * c.args.security.now.rate ≡ at_risk c.args.security.now c.args.self
-valued c = let s = c.args.security.now in ap (λ d. d * s.price * s.risk * s.rate) c.abs_diff.ensures
 
 pub overflow_mul-result-3 : goal.overflow_mul-result-3
-overflow_mul-result-3 c =
-    let e = valued (goal.at.overflow_mul-result-3 c).After-abs_diff in
-    let b = at_risk_bound c.args.security.now c.args.self c.requires.0 (terms c.args.security.now c.requires.1) in
-    omega arith
+overflow_mul-result-3 c = rw c.abs_diff.ensures (omega (arith, at_risk_bound c.args.security.now c.args.self c.requires.few (terms c.args.security.now c.requires.priced)))
 
-pub returns : goal.returns
-returns c =
-    let e = valued (goal.at.returns c).After-abs_diff in
-    let b = at_risk_bound c.args.security.now c.args.self c.requires.0 (terms c.args.security.now c.requires.1) in
-    record { value = e; bound = omega arith }
+pub returns-clause-bound : goal.returns-clause-bound
+returns-clause-bound c = rw c.abs_diff.ensures (at_risk_bound c.args.security.now c.args.self c.requires.few (terms c.args.security.now c.requires.priced))

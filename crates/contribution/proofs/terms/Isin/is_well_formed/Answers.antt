@@ -1,14 +1,12 @@
-use Rattle.std.proofs.Common.{sym, ◌∙◌, arith}
-use Rattle.std.proofs.lemmas.List.{at_drop_all}
-use Rattle.contribution.specs.Isins.{stand_from}
-use Rattle.contribution.proofs.Walks.{stands_on, stands_off}
+use Rattle.std.proofs.Common.{rules, ◌∙◌}
+use Rattle.std.proofs.lemmas.Iterator.{YieldsList-from_slice}
+use Rattle.std.proofs.lemmas.Iterator.Consumers.{YieldsList-from_enumerate}
+use Rattle.std.proofs.lemmas.Iterator.Search.{all_from_yields_List}
+use Rattle.contribution.specs.Isins.{stands}
+use Rattle.contribution.proofs.Walks.{each_stands}
 use Rattle.contribution.proofs.terms.Isin.is_well_formed.Goals as goal
 
-pub returns-then-not-stands : goal.returns-then-not-stands
-returns-then-not-stands c = stands_off c.args.self.now.bytes c.loop-i.i (omega arith) (sym c.if-not-stands.ensures) ∙ c.loop-i.invariant
-
-pub loop-i-preserved : goal.loop-i-preserved
-loop-i-preserved c = stands_on c.args.self.now.bytes c.loop-i.i (omega arith) (sym c.if-not-stands.ensures) ∙ c.loop-i.invariant
-
 pub returns : goal.returns
-returns c = sym (at_drop_all (stand_from c.loop-i.i) c.args.self.now.bytes c.loop-i.i (omega arith)) ∙ c.loop-i.invariant
+returns c =
+    all_from_yields_List (λ p. stands p.0 p.1) _ _ c.all.result c.all.ensures.ran (YieldsList-from_enumerate (YieldsList-from_slice c.args.self.now.bytes (cc)) (cc)) (λ x b q k. search rules)
+    ∙ each_stands 0 c.args.self.now.bytes
