@@ -1,27 +1,25 @@
 -- From checked securities and tallied trades to the steps.
-use Rattle.std.proofs.Common.{◌≡◌, ℕ, zero, suc, ◌+◌, ◌-◌, ◌*◌, ◌<◌, ◌≤◌, Bool, true, false, cond, not, ◌||◌, ltb, List, [], ◌∷◌, ◌++◌, map, length, get_or, take, replicate, pos, ◌-ℤ◌, ◌*ℤ◌, is_some, Some, Ok, Err, sum_by, sym, refl, ap, ◌∙◌, inl, inr, zero-add, arith}
+use Rattle.std.proofs.Common.{◌≡◌, ℕ, ◌+◌, ◌-◌, ◌*◌, ◌<◌, ◌≤◌, Bool, true, false, cond, not, ◌||◌, ltb, List, [], ◌∷◌, ◌++◌, map, length, get_or, take, replicate, pos, ◌-ℤ◌, ◌*ℤ◌, is_some, Ok, Err, sum_by, sym, refl, ap, ◌∙◌, inl, inr, zero-add, arith}
 use mathlib.Core.Path.{fun_ext}
-use lib.ListN.{length-replicate}
-use Rattle.std.specs.List.{position_from}
+use Rattle.std.specs.List.{position_or_len}
 use Rattle.std.specs.Str.{bytes_eq}
-use Rattle.std.proofs.lemmas.List.{get_or-take, get_or_default, same_lists, get_or_append_left, get_or-append_right, get_or-map, get_or-replicate, length-map, length-append, length-take}
-use Rattle.std.proofs.lemmas.List.Sums.{sum_by-cons}
+use Rattle.std.proofs.lemmas.List.{get_or-take, length-take}
+use Rattle.std.proofs.lemmas.Iterator.Adapters.{position_from-zero}
+use Rattle.std.proofs.lemmas.List.Sums.{sum_by-cons, fails_before_first}
 use Rattle.std.proofs.lemmas.Int.{ints}
-use Rattle.std.proofs.lemmas.Bool.{lt-ltb, le-ltb, cases_lt, cases_Bool, cond-true, cond-false, both_ways}
+use Rattle.std.proofs.lemmas.Bool.{lt-ltb, le-ltb, ltb-false, cases_Bool, cond-true, cond-false}
 use Rattle.division.specs.declared.refusals.Refusal.{Refusal}
 use Rattle.division.specs.Refusals.{checked, clear}
 use Rattle.division.proofs.Checks.{checked_on, checked_off, clear_at}
 use Rattle.contribution.specs.declared.terms.Security.{Security}
 use Rattle.contribution.specs.declared.terms.Trade.{Trade}
 use Rattle.contribution.specs.declared.positions.Position.{Position}
-use Rattle.contribution.specs.declared.assessments.Assessment.{Assessment}
 use Rattle.contribution.specs.Refusals.{by_contribution}
 use Rattle.contribution.specs.Isins.{well_formed, place}
 use Rattle.contribution.specs.Checks.{priced, security_checks, securities_checks, trades_checks}
-use Rattle.contribution.specs.Steps.{value, gain, bought, sold, paid, received, provisional, calculated, rounded_up, above_zero, sumℤ, renewed}
+use Rattle.contribution.specs.Steps.{value, gain, bought, sold, paid, received, provisional, calculated, rounded_up, above_zero, sumℤ}
 use Rattle.contribution.specs.Positions.{flat, position, at_risk, up, down, sum_pairs, Distinct}
-use Rattle.contribution.specs.Contribution.{checks, positions, assessment}
-use Rattle.contribution.proofs.Walks.{no_security}
+use Rattle.contribution.specs.Contribution.{checks, positions}
 use Rattle.contribution.proofs.Integers.{size, cut, times, sums_apart}
 
 -- what a security that passes its checks is
@@ -34,14 +32,13 @@ cleared before i s e = go (well_formed s.isin.bytes) (priced s) (is_some (place 
   go false b c e = cc
 
 -- an ISIN without a place is nobody's
-absent : (ss : List Security) (i : ℕ) (isin : List ℕ) → is_some (position_from (λ s. bytes_eq s.isin.bytes isin) i ss) ≡ false → (j : ℕ) (d : Security) → j < length ss → bytes_eq (get_or ss j d).isin.bytes isin ≡ false
-absent [] i isin e j d h = absurd (omega arith)
-absent (s ∷ ss) i isin e zero d h =
-    elim (cases_Bool (bytes_eq s.isin.bytes isin)) [ inl t ↦ absurd (both_ways _ e (ap is_some (cond-true _ (Some i) _ t))) | inr t ↦ t ]
-absent (s ∷ ss) i isin e (suc j) d h =
-    elim (cases_Bool (bytes_eq s.isin.bytes isin)) [
-      | inl t ↦ absurd (both_ways _ e (ap is_some (cond-true _ (Some i) _ t)))
-      | inr t ↦ absent ss (i + 1) isin (sym (ap is_some (cond-false _ (Some i) _ t)) ∙ e) j d (omega arith)
+absent : (ss : List Security) (isin : List ℕ) → is_some (place ss isin) ≡ false → (j : ℕ) (d : Security) → j < length ss → bytes_eq (get_or ss j d).isin.bytes isin ≡ false
+absent ss isin e j d h =
+    let test : Security → Bool = λ s. bytes_eq s.isin.bytes isin in
+    let first = position_from-zero test ss in
+    elim (cases_Bool (ltb (position_or_len test ss) (length ss))) [
+      | inl l ↦ (let f : true ≡ false = ap is_some (simp l at first) ∙ e in cc)
+      | inr l ↦ fails_before_first test ss j d (omega (arith, ltb-false _ _ l))
     ]
 
 module _ (ss : List Security) (e : Ok tt ≡ clear (securities_checks ss)) where
@@ -53,7 +50,7 @@ module _ (ss : List Security) (e : Ok tt ≡ clear (securities_checks ss)) where
 
   pub distinct : Distinct ss
   distinct j k d l h =
-      rw (get_or-take k ss j d l) at (absent (take k ss) 0 (get_or ss k d).isin.bytes (at k d h).1 j d (rw length-take (omega arith)))
+      rw (get_or-take k ss j d l) at (absent (take k ss) (get_or ss k d).isin.bytes (at k d h).1 j d (rw length-take (omega arith)))
 
 -- the sums over securities and their positions, rest standing past them
 pairs : (f : Security → Position → ℕ) (ss : List Security) (ts : List Trade) (rest : List Position) → sum_pairs f ss (map (λ s. position s ts) ss ++ rest) ≡ sum_by (λ s. f s (position s ts)) ss

@@ -1,22 +1,16 @@
 -- Differences of natural numbers, as signed numbers and apart.
-use Rattle.std.proofs.Common.{◌≡◌, ℕ, suc, ◌+◌, ◌-◌, ◌*◌, ◌<◌, ◌≤◌, List, [], ◌∷◌, ℤ, pos, negsuc, ◌+ℤ◌, ◌-ℤ◌, ◌*ℤ◌, neg_ℤ, nat_abs, fold, sum_by, refl, ap, ◌∙◌, inl, inr, mul-le-mul_right, mul_comm, arith}
+use Rattle.std.proofs.Common.{◌≡◌, ℕ, suc, ◌+◌, ◌-◌, ◌*◌, ◌≤◌, List, [], ◌∷◌, ℤ, pos, negsuc, ◌+ℤ◌, ◌-ℤ◌, ◌*ℤ◌, neg_ℤ, nat_abs, fold, sum_by, refl, ap, ◌∙◌, inl, inr, mul-le-mul_right, mul_comm, arith}
 use native.Mathlib.Nat.{mul-sub}
 use lib.IntN.{negsuc-*ℤ-pos, pos-*ℤ-pos}
 use Rattle.std.proofs.lemmas.Int.{ints}
 use Rattle.std.proofs.lemmas.Bool.{cases_lt}
 use Rattle.contribution.specs.Steps.{distance, above_zero, sumℤ}
 
-above : (b s : ℕ) → s ≤ b → pos b -ℤ pos s ≡ pos (b - s)
-above b s h = omega (arith, ints)
-
-under : (b s : ℕ) → b < s → pos b -ℤ pos s ≡ negsuc (s - b - 1)
-under b s h = omega (arith, ints)
-
 pub size : (b s : ℕ) → nat_abs (pos b -ℤ pos s) ≡ distance b s
-size b s = elim (cases_lt b s) [ inl h ↦ ap nat_abs (under b s h) ∙ omega arith | inr h ↦ ap nat_abs (above b s h) ∙ omega arith ]
+size b s = omega (arith, ints)
 
 pub cut : (u d : ℕ) → above_zero (pos u -ℤ pos d) ≡ u - d
-cut u d = elim (cases_lt u d) [ inl h ↦ ap above_zero (under u d h) ∙ omega arith | inr h ↦ ap above_zero (above u d h) ]
+cut u d = grind (arith, ints)
 
 parts : (m n k : ℕ) → (m - n) * k ≡ m * k - n * k
 parts m n k = omega (arith, mul-sub k m n, mul_comm k m, mul_comm k n, mul_comm k (m - n))
@@ -27,10 +21,12 @@ times b s p =
       | inl h ↦ (
           let e : suc (s - b - 1) * p ≡ s * p - b * p = ap (λ n. n * p) (omega arith) ∙ parts s b p in
           let l : b * p ≤ s * p = mul-le-mul_right p (omega arith) in
-          ap (λ z. z *ℤ pos p) (under b s h) ∙ negsuc-*ℤ-pos (s - b - 1) p ∙ ap (λ n. neg_ℤ (pos n)) e ∙ omega (arith, ints))
+          let d : pos b -ℤ pos s ≡ negsuc (s - b - 1) = omega (arith, ints) in
+          ap (λ z. z *ℤ pos p) d ∙ negsuc-*ℤ-pos (s - b - 1) p ∙ ap (λ n. neg_ℤ (pos n)) e ∙ omega (arith, ints))
       | inr h ↦ (
           let l : s * p ≤ b * p = mul-le-mul_right p h in
-          ap (λ z. z *ℤ pos p) (above b s h) ∙ pos-*ℤ-pos (b - s) p ∙ ap pos (parts b s p) ∙ omega (arith, ints))
+          let d : pos b -ℤ pos s ≡ pos (b - s) = omega (arith, ints) in
+          ap (λ z. z *ℤ pos p) d ∙ pos-*ℤ-pos (b - s) p ∙ ap pos (parts b s p) ∙ omega (arith, ints))
     ]
 
 -- a sum of differences is the difference of the sums

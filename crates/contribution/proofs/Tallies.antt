@@ -1,13 +1,13 @@
 -- One trade more in the position of its security, and in no other.
-use Rattle.std.proofs.Common.{◌≡◌, ℕ, suc, ◌+◌, ◌-◌, ◌*◌, ◌^◌, ◌<◌, ◌≤◌, Bool, true, false, ◌≢◌, List, [], ◌∷◌, ◌++◌, map, length, get_or, take, replicate, set, Some, sym, ap, ◌∙◌, inl, inr, add-zero, arith, get_or-set_other, get_or-set_same}
-use native.Mathlib.Nat.{sub-zero}
-use Rattle.std.specs.List.{position_from}
+use Rattle.std.proofs.Common.{◌≡◌, ℕ, ◌+◌, ◌-◌, ◌*◌, ◌^◌, ◌<◌, ◌≤◌, Bool, true, false, ltb, ◌≢◌, List, map, length, get_or, take, set, Some, None, sym, ap, ◌∙◌, inl, inr, add-zero, arith, get_or-set_other, get_or-set_same}
+use Rattle.std.specs.List.{position_or_len}
 use Rattle.std.specs.Str.{bytes_eq}
 use lib.ListN.{length-replicate}
 use Rattle.std.proofs.lemmas.List.{get_or_default, same_lists, get_or_append_left, get_or-append_right, get_or-map, get_or-replicate, length-map, length-append}
 use Rattle.std.proofs.lemmas.Slice.Eq.{bytes_eq-Decides}
-use Rattle.std.proofs.lemmas.List.Sums.{sum_by_more}
-use Rattle.std.proofs.lemmas.Bool.{cases_order, cases_Bool, cases_eq, cases_lt, both_ways}
+use Rattle.std.proofs.lemmas.Iterator.Adapters.{position_from-zero}
+use Rattle.std.proofs.lemmas.List.Sums.{sum_by_more, passes_at_first}
+use Rattle.std.proofs.lemmas.Bool.{cases_order, cases_Bool, cases_eq, cases_lt, both_ways, ltb-true}
 use Rattle.contribution.specs.declared.terms.Security.{Security}
 use Rattle.contribution.specs.declared.terms.Side.{Side}
 use Rattle.contribution.specs.declared.terms.Side.TheVariants.{Bought, Sold}
@@ -25,17 +25,14 @@ pub record Held (ss : List Security) (ts : List Trade) (ps : List Position) : Ty
   pub held : (k : ℕ) (d : Security) → k < length ss → get_or ps k flat ≡ position (get_or ss k d) ts
   pub past : (k : ℕ) → length ss ≤ k → get_or ps k flat ≡ flat
 
--- what is found passes the test
-found : {X : Type 0} (test : X → Bool) (xs : List X) (i k : ℕ) (d : X) → position_from test i xs ≡ Some k → (i ≤ k) × (test (get_or xs (k - i) d) ≡ true)
-found test [] i k d e = cc
-found test (x ∷ xs) i k d e =
-    elim (cases_Bool (test x)) [
-      | inl t ↦ (let f : Some i ≡ Some k = simp t at e in let g : i ≡ k = cc in let z : k - i ≡ 0 = omega arith in (omega arith, rw z t))
-      | inr t ↦ (let f : position_from test (i + 1) xs ≡ Some k = simp t at e in let r = found test xs (i + 1) k d f in let z : k - i ≡ suc (k - (i + 1)) = omega arith in (omega arith, rw z r.1))
-    ]
-
 pub placed_in : (ss : List Security) (t : Trade) (k : ℕ) (d : Security) → place ss t.isin.bytes ≡ Some k → in_security (get_or ss k d) t ≡ true
-placed_in ss t k d e = rw sub-zero at (found (λ s. bytes_eq s.isin.bytes t.isin.bytes) ss 0 k d e).1
+placed_in ss t k d e =
+    let test : Security → Bool = λ s. in_security s t in
+    let first = position_from-zero test ss in
+    elim (cases_Bool (ltb (position_or_len test ss) (length ss))) [
+      | inl l ↦ (let f : Some (position_or_len test ss) ≡ Some k = simp l at first ∙ e in let g : position_or_len test ss ≡ k = cc in rw g at (passes_at_first {X = Security} test ss d (ltb-true _ _ l)))
+      | inr l ↦ (let f : None ≡ Some k = simp l at first ∙ e in cc)
+    ]
 
 -- of distinct securities a trade is in one only
 pub elsewhere : (ss : List Security) (t : Trade) (j k : ℕ) (d : Security) → Distinct ss → j < length ss → k < length ss → j ≢ k →
