@@ -21,50 +21,37 @@ enum Line {
     Last(u64),
 }
 
-fn isin(word: &str) -> Option<Isin> {
-    let mut bytes = [0; 12];
-    if word.len() != 12 {
-        return None;
-    }
-    bytes.copy_from_slice(word.as_bytes());
+fn isin(words: &mut SplitWhitespace<'_>) -> Option<Isin> {
+    let bytes = <[u8; 12]>::try_from(words.next()?.as_bytes()).ok()?;
     Some(Isin { bytes })
 }
 
-fn side(word: &str) -> Option<Side> {
-    match word {
-        "K" => Some(Side::Bought),
-        "S" => Some(Side::Sold),
-        _ => None,
-    }
+fn side(words: &mut SplitWhitespace<'_>) -> Option<Side> {
+    let [letter] = words.next()?.as_bytes() else {
+        return None;
+    };
+    Side::try_from(*letter).ok()
 }
 
-fn number(word: &str) -> Option<u64> {
-    word.parse::<u64>().ok()
+fn number(words: &mut SplitWhitespace<'_>) -> Option<u64> {
+    words.next()?.parse::<u64>().ok()
 }
 
 fn security(words: &mut SplitWhitespace<'_>) -> Option<Security> {
-    let isin = isin(words.next()?)?;
-    let price = number(words.next()?)?;
-    let risk = number(words.next()?)?;
-    let rate = number(words.next()?)?;
     Some(Security {
-        isin,
-        price,
-        risk,
-        rate,
+        isin: isin(words)?,
+        price: number(words)?,
+        risk: number(words)?,
+        rate: number(words)?,
     })
 }
 
 fn trade(words: &mut SplitWhitespace<'_>) -> Option<Trade> {
-    let isin = isin(words.next()?)?;
-    let side = side(words.next()?)?;
-    let quantity = number(words.next()?)?;
-    let price = number(words.next()?)?;
     Some(Trade {
-        isin,
-        side,
-        quantity,
-        price,
+        isin: isin(words)?,
+        side: side(words)?,
+        quantity: number(words)?,
+        price: number(words)?,
     })
 }
 
@@ -73,7 +60,7 @@ fn read_line(text: &str) -> Option<Line> {
     let line = match words.next()? {
         "P" => Line::Security(security(&mut words)?),
         "T" => Line::Trade(trade(&mut words)?),
-        "M" => Line::Last(number(words.next()?)?),
+        "M" => Line::Last(number(&mut words)?),
         _ => return None,
     };
     match words.next() {
@@ -88,11 +75,10 @@ fn read(heap: Global, text: &str) -> Result<Request, Trouble> {
     let mut trades = Vec::new(heap);
     let mut last = MINIMUM;
     for (i, text) in text.lines().enumerate() {
-        match read_line(text) {
-            Some(Line::Security(security)) => securities.push(security)?,
-            Some(Line::Trade(trade)) => trades.push(trade)?,
-            Some(Line::Last(amount)) => last = amount,
-            None => return Err(Trouble::BadLine(i.saturating_add(1))),
+        match read_line(text).ok_or(Trouble::BadLine(i.saturating_add(1)))? {
+            Line::Security(security) => securities.push(security)?,
+            Line::Trade(trade) => trades.push(trade)?,
+            Line::Last(amount) => last = amount,
         }
     }
     Ok(Request {
@@ -142,14 +128,11 @@ fn step(heap: Global, security: &Security, position: Position) -> Result<String,
 pub(crate) fn reply(heap: Global, text: &str) -> Result<String, Trouble> {
     let request = read(heap, text)?;
     let last = request.last;
-    let assessment = match contribution(
+    let assessment = contribution(
         request.securities.as_slice(),
         request.trades.as_slice(),
         last,
-    ) {
-        Ok(assessment) => assessment,
-        Err(fault) => return Err(Trouble::NotAssessed(fault)),
-    };
+    )?;
     let mut out = String::new(heap);
     for (security, position) in request.securities.iter().zip(assessment.positions.iter()) {
         out.push_str(step(heap, security, *position)?.as_str())?;

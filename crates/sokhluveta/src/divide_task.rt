@@ -1,65 +1,42 @@
 // The task `divide`: an amount and then weights, parted by blanks or ends of lines; each part is shown, and the sum.
-ghost use Rattle.std.specs.Prelude.{◌≡◌, map, IfOk};
+ghost use Rattle.std.specs.Prelude.{◌≡◌, IfOk};
 ghost use Rattle.division.specs.Division.{parts_of};
-ghost use Rattle.sokhluveta.specs.declared.divide_task.Weight.{Weight};
 
 use crate::trouble::Trouble;
-use division::{Weighted, divide};
+use division::divide;
 use std::alloc::Global;
-
-#[derive(Clone, Copy)]
-struct Weight {
-    value: u64,
-}
-
-impl Weighted for Weight {
-    ghost weight = { λ w. w.value };
-
-    fn weight(&self) -> u64 {
-        self.value
-    }
-}
 
 #[derive(Drop)]
 struct Request {
     amount: u64,
-    weights: Vec<Weight>,
+    weights: Vec<u64>,
 }
 
 fn number(word: &str, place: usize) -> Result<u64, Trouble> {
-    match word.parse::<u64>() {
-        Ok(n) => Ok(n),
-        Err(_) => Err(Trouble::NotANumber(place)),
-    }
+    word.parse::<u64>().map_err(|_| Trouble::NotANumber(place))
 }
 
 fn read(heap: Global, text: &str) -> Result<Request, Trouble> {
     let mut words = text.split_whitespace().enumerate();
-    let Some((_, first)) = words.next() else {
-        return Err(Trouble::NoAmount);
-    };
+    let (_, first) = words.next().ok_or(Trouble::NoAmount)?;
     let amount = number(first, 1)?;
     let mut weights = Vec::new(heap);
     for (i, word) in words {
-        weights.push(Weight {
-            value: number(word, i.saturating_add(1))?,
-        })?;
+        weights.push(number(word, i.saturating_add(1))?)?;
     }
     Ok(Request { amount, weights })
 }
 
 fn divided(heap: Global, request: &Request) -> Result<Vec<u64>, Trouble>
-    ensures { IfOk result (λ parts. parts.items ≡ parts_of request.now.amount (map (λ w. w.value) request.now.weights.items)) }
+    ensures { IfOk result (λ parts. parts.items ≡ parts_of request.now.amount request.now.weights.items) }
 {
     let mut parts = vec![in heap; 0; request.weights.len()]?;
-    match divide(
+    divide(
         request.amount,
         request.weights.as_slice(),
         parts.as_mut_slice(),
-    ) {
-        Ok(()) => Ok(parts),
-        Err(fault) => Err(Trouble::NotDivided(fault)),
-    }
+    )?;
+    Ok(parts)
 }
 
 // What is printed: the amount, each weight with its part, and the sum of the parts.
@@ -72,8 +49,7 @@ pub(crate) fn reply(heap: Global, text: &str) -> Result<String, Trouble> {
     let mut sum: u64 = 0;
     for (i, (weight, part)) in request.weights.iter().zip(parts.iter()).enumerate() {
         let place = i.saturating_add(1);
-        let value = weight.value;
-        let line = format!(in heap; "{place}: weight {value} part {part}\n")?;
+        let line = format!(in heap; "{place}: weight {weight} part {part}\n")?;
         out.push_str(line.as_str())?;
         sum = sum.saturating_add(*part);
     }

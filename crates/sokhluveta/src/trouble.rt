@@ -1,6 +1,5 @@
 // Why a task has no answer.
-use contribution::Fault as ContributionFault;
-use division::{Fault as DivisionFault, Refusal};
+use division::Refusal;
 use std::alloc::{AllocError, AllocFailed};
 use std::error::Error;
 use std::fmt;
@@ -12,8 +11,8 @@ pub(crate) enum Trouble {
     NotANumber(usize),
     // the line at this place, counted from 1
     BadLine(usize),
-    NotDivided(DivisionFault),
-    NotAssessed(ContributionFault),
+    NotDivided(division::Fault),
+    NotAssessed(contribution::Fault),
     Memory,
 }
 
@@ -29,33 +28,27 @@ impl<T: Drop> From<AllocFailed<T>> for Trouble {
     }
 }
 
-fn division_reason(fault: DivisionFault) -> &'static str {
-    match fault {
-        DivisionFault::Things => "more than 64 weights, or weights above 4,000,000,000 in sum",
-        DivisionFault::Amount => "the amount is above 4,000,000,000",
-        DivisionFault::NoWeight => "the weights sum to 0",
+impl From<division::Fault> for Trouble {
+    fn from(fault: division::Fault) -> Self {
+        Trouble::NotDivided(fault)
     }
 }
 
-fn contribution_reason(fault: ContributionFault) -> &'static str {
-    match fault {
-        ContributionFault::TooMany => "more than 64 securities or more than 128 trades",
-        ContributionFault::Isin(_) => "the ISIN of this security or trade is malformed",
-        ContributionFault::Terms(_) =>
-            "the price, risk or rate of this security is out of its range",
-        ContributionFault::ListedBefore(_) => "the ISIN of this security was listed before",
-        ContributionFault::Deal(_) => "the quantity or price of this trade is out of its range",
-        ContributionFault::NotListed(_) => "the ISIN of this trade is not listed",
-        ContributionFault::TooLarge(_) => "this trade comes to more than 100,000,000",
-        ContributionFault::TooHigh => "the contribution comes to more than 1,000,000,000",
+impl From<contribution::Fault> for Trouble {
+    fn from(fault: contribution::Fault) -> Self {
+        Trouble::NotAssessed(fault)
     }
 }
 
-fn show<W: fmt::Write>(f: &mut fmt::Formatter<W>, refusal: Refusal, reason: &str) -> fmt::Result {
+fn show<W: fmt::Write, F: fmt::Display>(
+    f: &mut fmt::Formatter<W>,
+    refusal: Refusal,
+    fault: &F,
+) -> fmt::Result {
     let number = refusal.number;
-    let letter = refusal.layer.letter();
+    let layer = refusal.layer;
     let place = refusal.place;
-    write!(f, "refused {number} {letter} at {place}: {reason}")
+    write!(f, "refused {number} {layer} at {place}: {fault}")
 }
 
 impl fmt::Display for Trouble {
@@ -67,8 +60,8 @@ impl fmt::Display for Trouble {
                 f,
                 "line {place} is none of: P ISIN price risk rate; T ISIN K|S quantity price; M last"
             ),
-            Trouble::NotDivided(fault) => show(f, fault.refusal(), division_reason(fault)),
-            Trouble::NotAssessed(fault) => show(f, fault.refusal(), contribution_reason(fault)),
+            Trouble::NotDivided(fault) => show(f, fault.refusal(), &fault),
+            Trouble::NotAssessed(fault) => show(f, fault.refusal(), &fault),
             Trouble::Memory => write!(f, "out of memory"),
         }
     }
