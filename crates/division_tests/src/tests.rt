@@ -1,34 +1,14 @@
-use division::{Fault, Layer, Refusal, Weighted, divide};
+use division::{Fault, Layer, Refusal, divide};
 use std::test::Fail;
-
-#[derive(Drop)]
-struct Share(u64);
-
-impl Weighted for Share {
-    ghost weight = { λ s. s.0 };
-
-    fn weight(&self) -> u64 {
-        self.0
-    }
-}
 
 #[test]
 fn parts_follow_the_weights(rt: HostRuntime) {
     let mut parts = [9, 9, 9];
-    assert_eq!(rt;
-        divide(10, &[Share(1), Share(1), Share(1)], &mut parts),
-        Ok(())
-    );
+    assert_eq!(rt; divide(10, &[1, 1, 1], &mut parts), Ok(()));
     assert_eq!(rt; parts, [3, 3, 4]);
-    assert_eq!(rt;
-        divide(3, &[Share(5), Share(0), Share(5)], &mut parts),
-        Ok(())
-    );
+    assert_eq!(rt; divide(3, &[5, 0, 5], &mut parts), Ok(()));
     assert_eq!(rt; parts, [1, 0, 2]);
-    assert_eq!(rt;
-        divide(0, &[Share(5), Share(0), Share(5)], &mut parts),
-        Ok(())
-    );
+    assert_eq!(rt; divide(0, &[5, 0, 5], &mut parts), Ok(()));
     assert_eq!(rt; parts, [0, 0, 0]);
 }
 
@@ -37,42 +17,42 @@ fn refusals_leave_the_list(rt: HostRuntime) {
     let mut parts = [7, 8];
     let most = 4_000_000_000;
     assert_eq!(rt;
-        divide(1, &[Share(1)], &mut parts),
+        divide(1, &[1], &mut parts),
         Err(Fault::Things),
         "a list too long"
     );
     assert_eq!(rt;
-        divide(1, &[Share(1), Share(1), Share(1)], &mut parts),
+        divide(1, &[1, 1, 1], &mut parts),
         Err(Fault::Things),
         "a list too short"
     );
     assert_eq!(rt;
-        divide(1, &[Share(most), Share(1)], &mut parts),
+        divide(1, &[most, 1], &mut parts),
         Err(Fault::Things),
         "weights one too many"
     );
     assert_eq!(rt;
-        divide(1, &[Share(u64::MAX), Share(u64::MAX)], &mut parts),
+        divide(1, &[u64::MAX, u64::MAX], &mut parts),
         Err(Fault::Things),
         "the largest weights"
     );
     assert_eq!(rt;
-        divide(most + 1, &[Share(0), Share(0)], &mut parts),
+        divide(most + 1, &[0, 0], &mut parts),
         Err(Fault::Amount),
         "the amount before the weights"
     );
     assert_eq!(rt;
-        divide(u64::MAX, &[Share(1), Share(1)], &mut parts),
+        divide(u64::MAX, &[1, 1], &mut parts),
         Err(Fault::Amount),
         "the largest amount"
     );
     assert_eq!(rt;
-        divide(0, &[Share(0), Share(0)], &mut parts),
+        divide(0, &[0, 0], &mut parts),
         Err(Fault::NoWeight),
         "nothing over no weight"
     );
     assert_eq!(rt;
-        divide(1, &[] as &[Share; 0], &mut []),
+        divide(1, &[] as &[u64; 0], &mut []),
         Err(Fault::NoWeight),
         "over nothing"
     );
@@ -83,10 +63,7 @@ fn refusals_leave_the_list(rt: HostRuntime) {
 fn limits_pass(rt: HostRuntime) {
     let mut parts = [0, 0];
     let most = 4_000_000_000;
-    assert_eq!(rt;
-        divide(most, &[Share(most - 1), Share(1)], &mut parts),
-        Ok(())
-    );
+    assert_eq!(rt; divide(most, &[most - 1, 1], &mut parts), Ok(()));
     assert_eq!(rt; parts, [most - 1, 1]);
 }
 
@@ -95,13 +72,13 @@ fn sixty_four_things_and_one_more(rt: HostRuntime) -> Result<(), Fail> {
     let heap = rt.alloc();
     let mut things = Vec::new(heap);
     for _ in 0..64 {
-        things.push(Share(1))?;
+        things.push(1)?;
     }
     let mut parts = vec![in heap; 5; 64]?;
     assert_eq!(rt; divide(65, things.as_slice(), parts.as_mut_slice()), Ok(()));
     assert_eq!(rt; parts.get(0).copied(), Some(1));
     assert_eq!(rt; parts.get(63).copied(), Some(2));
-    things.push(Share(1))?;
+    things.push(1)?;
     let mut more = vec![in heap; 5; 65]?;
     assert_eq!(rt;
         divide(65, things.as_slice(), more.as_mut_slice()),
