@@ -384,15 +384,6 @@ fn trades_up_to_their_limit(rt: HostRuntime) -> Result<(), Fail> {
     Ok(())
 }
 
-fn of_position(position: Position) -> (u64, u64, u64, u64) {
-    (
-        position.bought,
-        position.sold,
-        position.paid,
-        position.received,
-    )
-}
-
 #[test]
 fn positions_in_their_order(rt: HostRuntime) -> Result<(), Fail> {
     let securities = [
@@ -408,15 +399,31 @@ fn positions_in_their_order(rt: HostRuntime) -> Result<(), Fail> {
     ];
     let positions = contribution(&securities, &trades, 0)?.positions;
     assert_eq!(rt;
-        of_position(positions[0]),
-        (50_001, 20_000, 52_000_007, 19_800_000)
+        positions[0],
+        Position {
+            bought: 50_001,
+            sold: 20_000,
+            paid: 52_000_007,
+            received: 19_800_000,
+        }
     );
     assert_eq!(rt;
-        of_position(positions[1]),
-        (20_000, 30_000, 16_000_000, 28_500_000)
+        positions[1],
+        Position {
+            bought: 20_000,
+            sold: 30_000,
+            paid: 16_000_000,
+            received: 28_500_000,
+        }
     );
+    let flat = Position {
+        bought: 0,
+        sold: 0,
+        paid: 0,
+        received: 0,
+    };
     for position in positions.iter().skip(2) {
-        assert_eq!(rt; of_position(*position), (0, 0, 0, 0));
+        assert_eq!(rt; *position, flat);
     }
     Ok(())
 }
