@@ -1,3 +1,4 @@
+// The tests of the division.
 use division::{Fault, Layer, Refusal, divide};
 use std::test::Fail;
 

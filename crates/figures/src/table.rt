@@ -1,3 +1,4 @@
+// The table of figures, as a contract.
 ghost use Rattle.figures.specs.Figures.{Figures};
 
 // Its proof is what shows the figures.

@@ -4,12 +4,8 @@ use Rattle.contribution.specs.Checks.{security_checks}
 use Rattle.contribution.proofs.Assessing.{all_priced, distinct}
 use Rattle.contribution.proofs.checks.Listed.check.Goals as goal
 
-pub invariant_of-result-clause-in_range : goal.invariant_of-result-clause-in_range
-invariant_of-result-clause-in_range c =
+pub invariant_of-result : goal.invariant_of-result
+invariant_of-result c =
     let ss = c.args.securities.now in
-    all_priced ss (each_all (λ i s. security_checks (take i ss) i s) ss c.loop-i.i c.loop-i-test.false ∙ c.loop-i.invariant)
-
-pub invariant_of-result-clause-distinct : goal.invariant_of-result-clause-distinct
-invariant_of-result-clause-distinct c =
-    let ss = c.args.securities.now in
-    distinct ss (each_all (λ i s. security_checks (take i ss) i s) ss c.loop-i.i c.loop-i-test.false ∙ c.loop-i.invariant)
+    let passed = each_all (λ i s. security_checks (take i ss) i s) ss c.loop-i.i c.loop-i-test.false ∙ c.loop-i.invariant in
+    record { few = c.requires; in_range = all_priced ss passed; distinct = distinct ss passed }
