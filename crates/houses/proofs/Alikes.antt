@@ -5,7 +5,7 @@ use Rattle.division.specs.declared.refusals.Refusal.{Refusal}
 use Rattle.division.specs.Refusals.{answer, after}
 use Rattle.houses.specs.declared.faults.Fault.{Fault}
 use Rattle.houses.specs.declared.faults.Fault.TheVariants.{TooMany, BadAccount, Amount, SameAccount, NotReady, UnknownAccount, PayerShort, ReceiverFull}
-use Rattle.houses.specs.declared.comparing.Transfer.{Transfer}
+use Rattle.houses.specs.declared.transfers.Transfer.{Transfer}
 use Rattle.houses.specs.Refusals.{by_house, refusal}
 use Rattle.houses.specs.Balances.{verdict, moved}
 use Rattle.houses.specs.Comparing.{State, due, Asked, Alike, none, more}

@@ -1,26 +1,17 @@
 -- What is read off the entries of a list house.
-use Rattle.std.proofs.Common.{◌≡◌, ℕ, ◌+◌, ◌-◌, ◌<◌, ◌≤◌, Bool, true, false, cond, eqb, List, [], ◌∷◌, ◌++◌, map, length, get_or, drop, is_some, Some, None, fold, sum_by, Option, sym, refl, ap, ◌∙◌, inl, inr, add-zero, arith}
+use Rattle.std.proofs.Common.{◌≡◌, ℕ, ◌+◌, ◌-◌, ◌≤◌, Bool, true, false, cond, eqb, List, [], ◌∷◌, ◌++◌, map, is_some, Some, None, fold, sum_by, Option, sym, refl, ap, ◌∙◌, inl, inr, add-zero, arith}
 use mathlib.Core.Path.{fun_ext}
-use Rattle.std.specs.Option.{option_map}
-use Rattle.std.proofs.lemmas.List.{at_drop_more}
-use Rattle.std.proofs.lemmas.Bool.{cases_Bool, eqb-true, eq-eqb, ne_eqb, both_ways}
+use Rattle.std.specs.Option.{option_map, option_or}
+use Rattle.std.proofs.lemmas.Bool.{cases_Bool, eqb-true, ne_eqb, both_ways}
 use Rattle.std.proofs.lemmas.List.Sums.{sum_by_push, sum_by-cons, fold_push}
 use Rattle.houses.specs.declared.openings.Opening.{Opening as Told}
 use Rattle.houses.specs.declared.entries.Entry.{Entry}
-use Rattle.houses.specs.declared.entries.Entry.TheVariants.{Opening, Transfer}
+use Rattle.houses.specs.declared.entries.Entry.TheVariants.{Transfer}
 use Rattle.houses.specs.Balances.{held, moved}
 use Rattle.houses.specs.Openings.{opened}
-use Rattle.houses.specs.Entries.{entry_of, opening, brings, takes, Covered, booked, with_entry, carried}
+use Rattle.houses.specs.Entries.{entry_of, opens, opening, brings, takes, Covered, booked, with_entry, carried}
 use Rattle.houses.proofs.Moved.{Makable}
-
-pub here : (es : List Entry) (k i n b : ℕ) (d : Entry) → i < length es → get_or es i d ≡ Opening n b → n ≡ k → opening (drop i es) k ≡ Some b
-here es k i n b d h e same = at_drop_more (λ xs. opening xs k) es i d h ∙ ap (λ x. opening (x ∷ drop (i + 1) es) k) e ∙ (let t : eqb k n ≡ true = eq-eqb k n (sym same) in simp t)
-
-pub past_opening : (es : List Entry) (k i n b : ℕ) (d : Entry) → i < length es → get_or es i d ≡ Opening n b → (n ≡ k → ⊥) → opening (drop i es) k ≡ opening (drop (i + 1) es) k
-past_opening es k i n b d h e other = at_drop_more (λ xs. opening xs k) es i d h ∙ ap (λ x. opening (x ∷ drop (i + 1) es) k) e ∙ (let t : eqb k n ≡ false = ne_eqb k n (λ s. other (sym s)) in simp t)
-
-pub past_transfer : (es : List Entry) (k i f t a : ℕ) (d : Entry) → i < length es → get_or es i d ≡ Transfer f t a → opening (drop i es) k ≡ opening (drop (i + 1) es) k
-past_transfer es k i f t a d h e = at_drop_more (λ xs. opening xs k) es i d h ∙ ap (λ x. opening (x ∷ drop (i + 1) es) k) e
+use Rattle.houses.proofs.Lists.{told_of}
 
 -- an opening balance with money in and money out
 abbrev net : Option ℕ → ℕ → ℕ → Option ℕ
@@ -45,8 +36,7 @@ module _ (f t a : ℕ) where
     where
       go : (es : List Entry) (k : ℕ) → opening (es ++ Transfer f t a ∷ []) k ≡ opening es k
       go [] k = refl
-      go (Opening n b ∷ es) k = ap (λ r. cond (eqb k n) (Some b) r) (go es k)
-      go (Transfer g u c ∷ es) k = go es k
+      go (e ∷ es) k = ap (option_or (opens e k)) (go es k)
 
   module _ (ready : Bool) (es : List Entry) (covered : Covered es) (m : Makable ready (booked es) f t a) where
     in_now : (k : ℕ) → sum_by (brings k) (es ++ Transfer f t a ∷ []) ≡ sum_by (brings k) es + cond (eqb k t) a 0
@@ -95,9 +85,8 @@ idle : (g : Entry → ℕ) → ((o : Told) → g (entry_of o) ≡ 0) → (os : L
 idle g e [] = refl
 idle g e (o ∷ os) = sum_by-cons g (entry_of o) (map entry_of os) ∙ (let h = idle g e os in let h2 = e o in omega arith)
 
-opening_opened : (os : List Told) (k : ℕ) → opening (map entry_of os) k ≡ opened os k
-opening_opened [] k = refl
-opening_opened (o ∷ os) k = ap (λ r. cond (eqb k o.account) (Some o.balance) r) (opening_opened os k)
+opening_opened : (os : List Told) → opening (map entry_of os) ≡ opened os
+opening_opened = told_of opens entry_of (λ o k. refl)
 
 net_idle : (o : Option ℕ) → net o 0 0 ≡ o
 net_idle None = refl
@@ -106,13 +95,13 @@ net_idle (Some n) = ap Some (omega arith)
 pub booked_opened : (os : List Told) → booked (map entry_of os) ≡ opened os
 booked_opened os = fun_ext (λ k.
     ap (λ n. net (opening (map entry_of os) k) n (sum_by (takes k) (map entry_of os))) (idle (brings k) (λ o. refl) os)
-    ∙ ap (λ n. net (opening (map entry_of os) k) 0 n) (idle (takes k) (λ o. refl) os) ∙ net_idle (opening (map entry_of os) k) ∙ opening_opened os k)
+    ∙ ap (λ n. net (opening (map entry_of os) k) 0 n) (idle (takes k) (λ o. refl) os) ∙ net_idle (opening (map entry_of os) k) ∙ ap (λ b. b k) (opening_opened os))
 
 pub covered_opened : (os : List Told) → Covered (map entry_of os)
 covered_opened os k = let e = idle (takes k) (λ o. refl) os in omega arith
 
 pub in_order_opened : (os : List Told) → booked (map entry_of os) ≡ carried (map entry_of os)
-in_order_opened os = booked_opened os ∙ sym (go (opening (map entry_of os)) os ∙ fun_ext (λ k. opening_opened os k))
+in_order_opened os = booked_opened os ∙ sym (go (opening (map entry_of os)) os ∙ opening_opened os)
   where
     go : (b : ℕ → Option ℕ) (os : List Told) → fold with_entry b (map entry_of os) ≡ b
     go b [] = refl

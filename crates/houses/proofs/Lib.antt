@@ -3,3 +3,4 @@ pub mod Moved
 pub mod Tables
 pub mod Booked
 pub mod Alikes
+pub mod Lists

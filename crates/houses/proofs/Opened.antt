@@ -1,21 +1,10 @@
--- What is handed in for an account, looked for from the front of a list of openings, and what the checks of a list tell.
-use Rattle.std.proofs.Common.{◌≡◌, ℕ, zero, suc, ◌+◌, ◌<◌, ◌≤◌, true, false, ◌||◌, eqb, ltb, List, [], ◌∷◌, length, get_or, drop, is_some, Some, Ok, refl, ◌∙◌, inl, inr, arith}
-use Rattle.std.proofs.lemmas.List.{at_drop_more}
-use Rattle.std.proofs.lemmas.Bool.{eq-eqb, ne_eqb, both_ways, cases_Bool, eqb-true}
+-- What the checks of the openings of a house tell of them.
+use Rattle.std.proofs.Common.{◌≡◌, ℕ, zero, suc, ◌<◌, ◌≤◌, false, eqb, List, [], ◌∷◌, length, get_or, Ok, refl, inl, inr, arith}
+use Rattle.std.proofs.lemmas.Bool.{both_ways, cases_Bool, eqb-true}
 use Rattle.std.proofs.lemmas.Bool.Decides.{nat_tests}
 use Rattle.houses.specs.declared.openings.Opening.{Opening}
 use Rattle.houses.specs.Balances.{Sound}
 use Rattle.houses.specs.Openings.{opened, faulty, table_verdict, list_verdict}
-
-pub here : (os : List Opening) (k i : ℕ) (d : Opening) → i < length os → (get_or os i d).account ≡ k → opened (drop i os) k ≡ Some (get_or os i d).balance
-here os k i d h e = at_drop_more (λ xs. opened xs k) os i d h ∙ (let t : eqb k (get_or os i d).account ≡ true = eq-eqb _ _ (cc) in simp t)
-
-pub past : (os : List Opening) (k i : ℕ) (d : Opening) → i < length os → ((get_or os i d).account ≡ k → ⊥) → opened (drop i os) k ≡ opened (drop (i + 1) os) k
-past os k i d h e = at_drop_more (λ xs. opened xs k) os i d h ∙ (let t : eqb k (get_or os i d).account ≡ false = ne_eqb _ _ (λ f. e (cc)) in simp t)
-
-pub faulty_more : (os : List Opening) (i : ℕ) (d : Opening) → i < length os
-    → faulty (drop i os) ≡ (ltb 9999 (get_or os i d).account || (ltb 1000000000000000 (get_or os i d).balance || (is_some (opened (drop (i + 1) os) (get_or os i d).account) || faulty (drop (i + 1) os))))
-faulty_more os i d h = at_drop_more faulty os i d h
 
 pub table_passed : (os : List Opening) → table_verdict os ≡ Ok tt → faulty os ≡ false
 table_passed os e = grind (arith, nat_tests)

@@ -1,19 +1,10 @@
--- What a table keeps for an account, looked for from its front, and what a write into it leaves.
-use Rattle.std.proofs.Common.{◌≡◌, ℕ, zero, suc, ◌+◌, ◌-◌, ◌<◌, true, false, cond, eqb, List, [], ◌∷◌, map, length, get_or, drop, set, Some, None, Option, sym, refl, ap, ◌∙◌, inl, inr, arith}
+-- What a write into a table leaves.
+use Rattle.std.proofs.Common.{◌≡◌, ℕ, zero, suc, ◌+◌, ◌-◌, ◌<◌, true, false, eqb, List, [], ◌∷◌, length, get_or, set, None, Option, sym, refl, inl, inr, arith}
 use mathlib.Core.Path.{fun_ext}
-use Rattle.std.proofs.lemmas.List.{at_drop_more}
-use Rattle.std.proofs.lemmas.Bool.{cases_Bool, eqb-true, eq-eqb, ne_eqb}
-use Rattle.houses.specs.declared.openings.Opening.{Opening}
+use Rattle.std.proofs.lemmas.Bool.{cases_Bool, eqb-true, ne_eqb}
 use Rattle.houses.specs.declared.table.Account.{Account}
 use Rattle.houses.specs.Balances.{held, rewritten, moved}
-use Rattle.houses.specs.Openings.{opened}
 use Rattle.houses.specs.Table.{kept}
-
-pub here : (xs : List Account) (k i : ℕ) (d : Account) → i < length xs → (get_or xs i d).number ≡ k → kept (drop i xs) k ≡ Some (get_or xs i d).balance
-here xs k i d h e = at_drop_more (λ ys. kept ys k) xs i d h ∙ (let t : eqb k (get_or xs i d).number ≡ true = eq-eqb _ _ (cc) in simp t)
-
-pub past : (xs : List Account) (k i : ℕ) (d : Account) → i < length xs → ((get_or xs i d).number ≡ k → ⊥) → kept (drop i xs) k ≡ kept (drop (i + 1) xs) k
-past xs k i d h e = at_drop_more (λ ys. kept ys k) xs i d h ∙ (let t : eqb k (get_or xs i d).number ≡ false = ne_eqb _ _ (λ f. e (cc)) in simp t)
 
 -- a write at the first place that has the number
 at_first : (xs : List Account) (i k v q : ℕ) (d : Account) → i < length xs → ((j : ℕ) → j < i → (get_or xs j d).number ≡ k → ⊥) → (get_or xs i d).number ≡ k
@@ -42,13 +33,3 @@ unkept (a ∷ xs) k d none =
 pub both : (b : ℕ → Option ℕ) (f t a : ℕ) → (f ≡ t → ⊥) → rewritten (rewritten b f (held (b f) - a)) t (held (b t) + a) ≡ moved b f t a
 both b f t a apart = fun_ext (λ k. elim (cases_Bool (eqb k f))
     [ inl u ↦ (let w : eqb k t ≡ false = ne_eqb k t (λ e. apart (let g = eqb-true k f u in cc)) in simp (u, w)) | inr u ↦ simp u ])
-
-abbrev pub account_of : Opening → Account
-account_of o = record { number = o.account; balance = o.balance }
-
-pub kept_opened : (os : List Opening) → kept (map account_of os) ≡ opened os
-kept_opened os = fun_ext (λ k. go os k)
-  where
-    go : (os : List Opening) (k : ℕ) → kept (map account_of os) k ≡ opened os k
-    go [] k = refl
-    go (o ∷ os) k = ap (λ r. cond (eqb k o.account) (Some o.balance) r) (go os k)

@@ -3,7 +3,7 @@ use Rattle.std.specs.Prelude.{◌≡◌, ℕ, ◌+◌, Bool, ◌⊎◌, List, []
 use Rattle.division.specs.declared.refusals.Refusal.{Refusal}
 use Rattle.division.specs.Refusals.{answer, after}
 use Rattle.houses.specs.declared.faults.Fault.{Fault}
-use Rattle.houses.specs.declared.comparing.Transfer.{Transfer}
+use Rattle.houses.specs.declared.transfers.Transfer.{Transfer}
 use Rattle.houses.specs.Refusals.{by_house, refusal}
 use Rattle.houses.specs.Balances.{verdict, moved}
 

@@ -1,20 +1,25 @@
 -- The entries of a list house, and the balances that are read off them.
-use Rattle.std.specs.Prelude.{ℕ, ◌+◌, ◌-◌, ◌≤◌, cond, List, [], ◌∷◌, Some, None, fold, sum_by, Option, ◌==◌}
+use Rattle.std.specs.Prelude.{ℕ, ◌+◌, ◌-◌, ◌≤◌, cond, List, None, fold, sum_by, Option, ◌==◌}
+use Rattle.std.specs.Bool.{then_some}
 use Rattle.std.specs.Option.{option_map}
 use Rattle.houses.specs.declared.openings.Opening.{Opening as Told}
 use Rattle.houses.specs.declared.entries.Entry.{Entry}
 use Rattle.houses.specs.declared.entries.Entry.TheVariants.{Opening, Transfer}
 use Rattle.houses.specs.Balances.{held, moved}
+use Rattle.houses.specs.Lists.{first_told}
 
 -- an account that is handed in, as an entry
 abbrev pub entry_of : Told → Entry
 entry_of o = Opening o.account o.balance
 
+-- the balance that an entry opens the account k with
+abbrev pub opens : Entry → ℕ → Option ℕ
+opens (Opening n balance) k = then_some (k == n) balance
+opens (Transfer from to amount) k = None
+
 -- the opening balance of each account
 abbrev pub opening : List Entry → ℕ → Option ℕ
-opening [] k = None
-opening (Opening n balance ∷ es) k = cond (k == n) (Some balance) (opening es k)
-opening (Transfer from to amount ∷ es) k = opening es k
+opening es = first_told opens es
 
 -- what an entry brings to the account k
 abbrev pub brings : ℕ → Entry → ℕ

@@ -1,9 +1,12 @@
 // The entries of a list house, and what is read off them.
-ghost use Rattle.std.specs.Prelude.{◌≡◌, ◌≤◌, length};
+ghost use Rattle.std.specs.Prelude.{◌≡◌, ◌≤◌, length, refl};
 ghost use Rattle.houses.specs.Balances.{Sound};
-ghost use Rattle.houses.specs.Entries.{opening, brings, takes, Covered, booked};
+ghost use Rattle.houses.specs.Entries.{entry_of, opens, brings, takes, Covered, booked};
 
+use crate::keeping::Keeps;
 use crate::numbers::Number;
+use crate::openings::Opening;
+use crate::telling::{Tells, first_told};
 
 #[derive(Clone, Copy)]
 pub enum Entry {
@@ -18,13 +21,40 @@ pub enum Entry {
     },
 }
 
+impl Tells for Entry {
+    ghost tells = { opens };
+
+    fn tells(&self, account: u64) -> Option<u64> {
+        match *self {
+            Entry::Opening {
+                account: number,
+                balance,
+            } if account == u64::from(number) => Some(balance),
+            _ => None,
+        }
+    }
+}
+
+impl Keeps for Entry {
+    ghost kept_of = { entry_of };
+
+    ghost same = { λ o k. refl };
+
+    fn keep(opening: &Opening) -> Entry {
+        Entry::Opening {
+            account: opening.account as Number,
+            balance: opening.balance,
+        }
+    }
+}
+
 impl Entry {
     // What the entry brings to the account.
     fn brings(&self, account: u64) -> u64
         ensures { result ≡ brings account self.now }
     {
         match *self {
-            Entry::Transfer { to, amount, .. } if to as u64 == account => amount,
+            Entry::Transfer { to, amount, .. } if u64::from(to) == account => amount,
             _ => 0,
         }
     }
@@ -34,24 +64,10 @@ impl Entry {
         ensures { result ≡ takes account self.now }
     {
         match *self {
-            Entry::Transfer { from, amount, .. } if from as u64 == account => amount,
+            Entry::Transfer { from, amount, .. } if u64::from(from) == account => amount,
             _ => 0,
         }
     }
-}
-
-// The opening balance of the account.
-fn opening_of(entries: &[Entry], number: u64) -> Option<u64>
-    ensures { result ≡ opening entries.now number }
-{
-    for entry in entries {
-        if let Entry::Opening { account, balance } = *entry {
-            if account as u64 == number {
-                return Some(balance);
-            }
-        }
-    }
-    None
 }
 
 // The balance of the account: what it opened with and what was paid in, less what was paid out.
@@ -61,12 +77,14 @@ pub(crate) fn balance_from(entries: &[Entry], account: u64) -> Option<u64>
     requires sound { Sound (booked entries.now) }
     ensures { result ≡ booked entries.now account }
 {
-    let opening = opening_of(entries, account)?;
-    let mut paid_in: u128 = 0;
-    let mut paid_out: u128 = 0;
-    for entry in entries {
-        paid_in += entry.brings(account) as u128;
-        paid_out += entry.takes(account) as u128;
-    }
-    Some((opening as u128 + paid_in - paid_out) as u64)
+    let opening = first_told(entries, account)?;
+    let paid_in: u128 = entries
+        .iter()
+        .map(|entry| u128::from(entry.brings(account)))
+        .sum();
+    let paid_out: u128 = entries
+        .iter()
+        .map(|entry| u128::from(entry.takes(account)))
+        .sum();
+    Some((u128::from(opening) + paid_in - paid_out) as u64)
 }

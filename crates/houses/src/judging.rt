@@ -5,6 +5,7 @@ ghost use Rattle.houses.specs.Refusals.{refusal};
 ghost use Rattle.houses.specs.Balances.{checks, held};
 
 use crate::faults::Fault;
+use crate::transfers::Transfer;
 
 // The most that a transfer moves.
 const AMOUNT: u64 = 4_000_000_000;
@@ -17,12 +18,11 @@ pub(crate) fn judge(
     ready: bool,
     payer: Option<u64>,
     receiver: Option<u64>,
-    from: u64,
-    to: u64,
-    amount: u64,
+    transfer: Transfer,
 ) -> Result<(u64, u64), Fault>
-    ensures { (b : ℕ → Option ℕ) → b from ≡ payer → b to ≡ receiver → answer refusal result ≡ checked (checks ready b from to amount) (held (b from) - amount, held (b to) + amount) }
+    ensures { (b : ℕ → Option ℕ) → b transfer.from ≡ payer → b transfer.to ≡ receiver → answer refusal result ≡ checked (checks ready b transfer.from transfer.to transfer.amount) (held (b transfer.from) - transfer.amount, held (b transfer.to) + transfer.amount) }
 {
+    let Transfer { from, to, amount } = transfer;
     if amount == 0 || amount > AMOUNT {
         return Err(Fault::Amount);
     }

@@ -10,9 +10,11 @@ use crate::cash::House;
 use crate::entries::{Entry, balance_from};
 use crate::faults::Fault;
 use crate::judging::judge;
+use crate::keeping::filled;
 use crate::list_house::ListHouse;
 use crate::numbers::Number;
-use crate::openings::{Opening, has_bad_account};
+use crate::openings::{Opening, check};
+use crate::transfers::Transfer;
 
 // The most entries of a list house.
 const ENTRIES: usize = 1_024;
@@ -22,13 +24,10 @@ impl ListHouse {
     pub fn check(openings: &[Opening], room: usize) -> Result<(), Fault>
         ensures { answer refusal result ≡ list_verdict openings.now room }
     {
-        if room > ENTRIES || openings.len() > room {
+        if room > ENTRIES {
             return Err(Fault::TooMany);
         }
-        if has_bad_account(openings) {
-            return Err(Fault::BadAccount);
-        }
-        Ok(())
+        check(openings, room)
     }
 
     // The house with these accounts, whose entries are kept in the list, which is empty and has room for all of them.
@@ -41,13 +40,7 @@ impl ListHouse {
         ensures entries { result.entries.items ≡ map entry_of openings.now }
         ensures room { result.room ≡ room }
     {
-        let mut entries = list;
-        for opening in openings {
-            entries.push_reserved(Entry::Opening {
-                account: opening.account as Number,
-                balance: opening.balance,
-            });
-        }
+        let entries = filled(openings, list);
         ListHouse { entries, room }
     }
 
@@ -78,7 +71,7 @@ impl House for ListHouse {
         let payer = balance_from(&self.entries, from);
         let receiver = balance_from(&self.entries, to);
         let free = self.entries.len() < self.room;
-        judge(free, payer, receiver, from, to, amount)?;
+        judge(free, payer, receiver, Transfer { from, to, amount })?;
         self.entries.push_reserved(Entry::Transfer {
             from: from as Number,
             to: to as Number,

@@ -1,9 +1,13 @@
 // The accounts that a house is made with, as they are handed in, and what has to hold of them.
 ghost use Rattle.std.specs.Prelude.{◌≡◌};
-ghost use Rattle.houses.specs.Openings.{opened, faulty};
+ghost use Rattle.division.specs.Refusals.{answer};
+ghost use Rattle.houses.specs.Refusals.{refusal};
+ghost use Rattle.houses.specs.Openings.{handed_in, faulty, openings_verdict};
 
+use crate::faults::Fault;
 use crate::judging::BALANCE;
 use crate::numbers::LAST;
+use crate::telling::{Tells, first_told};
 
 #[derive(Clone, Copy)]
 pub struct Opening {
@@ -11,27 +15,38 @@ pub struct Opening {
     pub balance: u64,
 }
 
-// The balance that is handed in for the account.
-fn find(openings: &[Opening], account: u64) -> Option<u64>
-    ensures { result ≡ opened openings.now account }
-{
-    for opening in openings {
-        if opening.account == account {
-            return Some(opening.balance);
-        }
+impl Tells for Opening {
+    ghost tells = { handed_in };
+
+    fn tells(&self, account: u64) -> Option<u64> {
+        (account == self.account).then_some(self.balance)
     }
-    None
 }
 
 // Whether an account is given twice or is above 9,999, or has a balance above 10^15.
-pub(crate) fn has_bad_account(openings: &[Opening]) -> bool
+fn has_bad_account(openings: &[Opening]) -> bool
     ensures { result ≡ faulty openings.now }
 {
-    for (i, opening) in openings.iter().enumerate() {
-        let after = find(&openings[i + 1..], opening.account);
-        if opening.account > LAST || opening.balance > BALANCE || after.is_some() {
+    let mut rest = openings;
+    while let Some((opening, after)) = rest.split_first() {
+        let again = first_told(after, opening.account).is_some();
+        if opening.account > LAST || opening.balance > BALANCE || again {
             return true;
         }
+        rest = after;
     }
     false
+}
+
+// Whether a house that takes so many accounts at most can be made with these.
+pub(crate) fn check(openings: &[Opening], most: usize) -> Result<(), Fault>
+    ensures { answer refusal result ≡ openings_verdict openings.now most }
+{
+    if openings.len() > most {
+        return Err(Fault::TooMany);
+    }
+    if has_bad_account(openings) {
+        return Err(Fault::BadAccount);
+    }
+    Ok(())
 }

@@ -1,13 +1,17 @@
-// A table of accounts with their balances, and what is read from it and written into it.
-ghost use Rattle.std.specs.Prelude.{◌≡◌, true, is_some};
+// A table of accounts with their balances, and what is written into it.
+ghost use Rattle.std.specs.Prelude.{◌≡◌, true, is_some, refl};
 ghost use Rattle.division.specs.Refusals.{answer, after};
 ghost use Rattle.houses.specs.Refusals.{refusal};
 ghost use Rattle.houses.specs.Balances.{verdict, moved, rewritten};
-ghost use Rattle.houses.specs.Table.{kept};
+ghost use Rattle.houses.specs.Table.{account_of, has, kept};
 
 use crate::faults::Fault;
 use crate::judging::judge;
+use crate::keeping::Keeps;
 use crate::numbers::Number;
+use crate::openings::Opening;
+use crate::telling::{Tells, first_told};
+use crate::transfers::Transfer;
 
 #[derive(Clone, Copy)]
 pub struct Account {
@@ -15,16 +19,25 @@ pub struct Account {
     pub balance: u64,
 }
 
-// The balance of the account.
-pub(crate) fn balance_in(accounts: &[Account], number: u64) -> Option<u64>
-    ensures { result ≡ kept accounts.now number }
-{
-    for account in accounts {
-        if account.number as u64 == number {
-            return Some(account.balance);
+impl Tells for Account {
+    ghost tells = { has };
+
+    fn tells(&self, account: u64) -> Option<u64> {
+        (account == u64::from(self.number)).then_some(self.balance)
+    }
+}
+
+impl Keeps for Account {
+    ghost kept_of = { account_of };
+
+    ghost same = { λ o k. refl };
+
+    fn keep(opening: &Opening) -> Account {
+        Account {
+            number: opening.account as Number,
+            balance: opening.balance,
         }
     }
-    None
 }
 
 // Gives the account another balance.
@@ -33,22 +46,22 @@ fn write(accounts: &mut [Account], number: u64, balance: u64)
     ensures { kept accounts.new ≡ rewritten (kept accounts.old) number balance }
 {
     for account in accounts.iter_mut() {
-        if account.number as u64 == number {
+        if u64::from(account.number) == number {
             account.balance = balance;
             return;
         }
     }
 }
 
-// Moves the amount from one account to the other, or refuses.
-pub(crate) fn carry(accounts: &mut [Account], from: u64, to: u64, amount: u64) -> Result<(), Fault>
-    ensures verdict { answer refusal result ≡ verdict true (kept accounts.old) from to amount }
-    ensures balances { kept accounts.new ≡ after result (moved (kept accounts.old) from to amount) (kept accounts.old) }
+// Makes the transfer, or refuses it.
+pub(crate) fn carry(accounts: &mut [Account], transfer: Transfer) -> Result<(), Fault>
+    ensures verdict { answer refusal result ≡ verdict true (kept accounts.old) transfer.from transfer.to transfer.amount }
+    ensures balances { kept accounts.new ≡ after result (moved (kept accounts.old) transfer.from transfer.to transfer.amount) (kept accounts.old) }
 {
-    let payer = balance_in(accounts, from);
-    let receiver = balance_in(accounts, to);
-    let (less, more) = judge(true, payer, receiver, from, to, amount)?;
-    write(accounts, from, less);
-    write(accounts, to, more);
+    let payer = first_told(accounts, transfer.from);
+    let receiver = first_told(accounts, transfer.to);
+    let (less, more) = judge(true, payer, receiver, transfer)?;
+    write(accounts, transfer.from, less);
+    write(accounts, transfer.to, more);
     Ok(())
 }

@@ -7,10 +7,12 @@ ghost use Rattle.houses.specs.Table.{kept};
 
 use crate::cash::House;
 use crate::faults::Fault;
-use crate::numbers::Number;
-use crate::openings::{Opening, has_bad_account};
-use crate::table::{Account, balance_in, carry};
+use crate::keeping::filled;
+use crate::openings::{Opening, check};
+use crate::table::{Account, carry};
 use crate::table_house::TableHouse;
+use crate::telling::first_told;
+use crate::transfers::Transfer;
 
 // The most accounts of a table house.
 const ACCOUNTS: usize = 128;
@@ -20,13 +22,7 @@ impl TableHouse {
     pub fn check(openings: &[Opening]) -> Result<(), Fault>
         ensures { answer refusal result ≡ table_verdict openings.now }
     {
-        if openings.len() > ACCOUNTS {
-            return Err(Fault::TooMany);
-        }
-        if has_bad_account(openings) {
-            return Err(Fault::BadAccount);
-        }
-        Ok(())
+        check(openings, ACCOUNTS)
     }
 
     // The house with these accounts, kept in the list, which is empty and has room for them.
@@ -36,14 +32,9 @@ impl TableHouse {
         requires room { length openings.now ≤ vec_capacity list }
         ensures { kept result.accounts.items ≡ opened openings.now }
     {
-        let mut accounts = list;
-        for opening in openings {
-            accounts.push_reserved(Account {
-                number: opening.account as Number,
-                balance: opening.balance,
-            });
+        TableHouse {
+            accounts: filled(openings, list),
         }
-        TableHouse { accounts }
     }
 }
 
@@ -55,10 +46,10 @@ impl House for TableHouse {
     ghost sound = { λ x. x.sound };
 
     fn transfer(&mut self, from: u64, to: u64, amount: u64) -> Result<(), Fault> {
-        carry(&mut self.accounts, from, to, amount)
+        carry(&mut self.accounts, Transfer { from, to, amount })
     }
 
     fn balance(&mut self, account: u64) -> Result<u64, Fault> {
-        balance_in(&self.accounts, account).ok_or(Fault::UnknownAccount)
+        first_told(&self.accounts, account).ok_or(Fault::UnknownAccount)
     }
 }

@@ -1,4 +1,4 @@
-use Rattle.std.proofs.Common.{get_or, set, is_some, sym, ap, ◌∙◌, arith, below_more}
+use Rattle.std.proofs.Common.{get_or, set, is_some, ap, ◌∙◌, arith, below_more}
 use Rattle.std.proofs.lemmas.List.{set-get_or}
 use Rattle.std.proofs.lemmas.Bool.{both_ways}
 use Rattle.houses.specs.declared.table.Account.{Account}
@@ -9,18 +9,18 @@ use Rattle.houses.proofs.table.write.Goals as goal
 abbrev none : Account
 none = record { number = 0; balance = 0 }
 
-pub returns-then-account-number : goal.returns-then-account-number
-returns-then-account-number c =
-    let same = c.loop-account.invariant.0 in let i = c.loop-account.account-index in
-    ap (λ xs. kept (set xs i (record { number = (get_or xs i none).number; balance = c.args.balance }))) same
-    ∙ write_first c.args.accounts.now i c.args.number c.args.balance none c.loop-account-test.true c.loop-account.invariant.1 (ap (λ xs. (get_or xs i none).number) (sym same) ∙ c.if-account-number.true)
+pub returns-then-from-number : goal.returns-then-from-number
+returns-then-from-number c =
+    let i = c.loop-account.account-index in
+    ap (λ xs. kept (set xs i (record { number = (get_or xs i none).number; balance = c.args.balance }))) c.loop-account.invariant.same
+    ∙ write_first c.args.accounts.now i c.args.number c.args.balance none c.loop-account-test.true c.loop-account.invariant.absent (cc)
 
 pub loop-account-preserved : goal.loop-account-preserved
 loop-account-preserved c =
-    let same = c.loop-account.invariant.0 in let i = c.loop-account.account-index in
-    (set-get_or c.loop-account.accounts i none ∙ same, below_more _ _ c.loop-account.invariant.1 (λ e. c.if-account-number.false (ap (λ xs. (get_or xs i none).number) same ∙ e)))
+    let e = set-get_or c.loop-account.accounts c.loop-account.account-index none in
+    record { same = cc; absent = below_more _ _ c.loop-account.invariant.absent (λ n. c.if-from-number.false (cc)) }
 
 pub returns : goal.returns
 returns c =
-    let e = unkept c.args.accounts.now c.args.number none (λ j h. c.loop-account.invariant.1 j (omega (arith, c.loop-account-test.false))) in
+    let e = unkept c.args.accounts.now c.args.number none (λ j h. c.loop-account.invariant.absent j (omega (arith, c.loop-account-test.false))) in
     absurd (both_ways _ (ap is_some e) c.requires)
