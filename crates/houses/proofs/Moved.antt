@@ -8,11 +8,12 @@ use Rattle.division.specs.Refusals.{answer, checked, after}
 use Rattle.houses.specs.declared.faults.Fault.{Fault}
 use Rattle.houses.specs.Refusals.{refusal}
 use Rattle.houses.specs.Balances.{held, Sound, Same, checks, verdict, moved, below, money}
-use Rattle.division.proofs.Checks.{checked_made}
+use Rattle.division.proofs.Checks.{checked_refused, checked_made}
 
 module _ (ready : Bool) (b : ℕ → Option ℕ) (f t a : ℕ) where
   -- what holds of a transfer that can be made
   pub record Makable : Type 0 where
+    pub made : Ok tt ≡ verdict ready b f t a
     pub apart : f ≡ t → ⊥
     pub takes : ready ≡ true
     pub payer : is_some (b f) ≡ true
@@ -20,15 +21,16 @@ module _ (ready : Bool) (b : ℕ → Option ℕ) (f t a : ℕ) where
     pub enough : a ≤ held (b f)
     pub room : held (b t) + a ≤ 1000000000000000
 
-  pub makable : verdict ready b f t a ≡ Ok tt → Makable
-  makable e = record { apart = grind (arith, nat_tests); takes = grind (arith, nat_tests); payer = grind (arith, nat_tests); receiver = grind (arith, nat_tests); enough = grind (arith, nat_tests); room = grind (arith, nat_tests) }
+  pub makable : Ok tt ≡ verdict ready b f t a → Makable
+  makable e = record { made = e; apart = grind (arith, nat_tests); takes = grind (arith, nat_tests); payer = grind (arith, nat_tests); receiver = grind (arith, nat_tests); enough = grind (arith, nat_tests); room = grind (arith, nat_tests) }
 
   -- what the judge's answer tells of a transfer that it lets pass
-  pub passed : (less more : ℕ) → ◌≡◌ {A = Result (ℕ × ℕ) Refusal} (Ok (less, more)) (checked (checks ready b f t a) (held (b f) - a, held (b t) + a))
-      → (verdict ready b f t a ≡ Ok tt) × (less ≡ held (b f) - a) × (more ≡ held (b t) + a)
-  passed less more e =
-      let p = checked_made (checks ready b f t a) (held (b f) - a, held (b t) + a) (less, more) tt e in
-      (sym p.1, ap (λ n. n.0) p.0, ap (λ n. n.1) p.0)
+  pub passed : (n : ℕ × ℕ) → Ok n ≡ checked (checks ready b f t a) (held (b f) - a, held (b t) + a) → Makable × (n ≡ (held (b f) - a, held (b t) + a))
+  passed n e = let p = checked_made (checks ready b f t a) (held (b f) - a, held (b t) + a) n tt e in (makable p.1, p.0)
+
+  -- and of one that it refuses
+  pub refused : (n : ℕ × ℕ) (x : Refusal) → Err x ≡ checked (checks ready b f t a) n → Err x ≡ verdict ready b f t a
+  refused n x e = checked_refused (checks ready b f t a) n tt x e
 
   -- the money below n, with what the payer lost and the receiver got if they are below n
   below_moved : (f ≡ t → ⊥) → a ≤ held (b f) → (n : ℕ) → below n (moved b f t a) + cond (ltb f n) a 0 ≡ below n b + cond (ltb t n) a 0
@@ -44,17 +46,15 @@ module _ (ready : Bool) (b : ℕ → Option ℕ) (f t a : ℕ) where
         ]
       ]
 
-  pub money_moved : Sound b → verdict ready b f t a ≡ Ok tt → money (moved b f t a) ≡ money b
-  money_moved sound e =
-      let m = makable e in
+  pub money_moved : Sound b → Makable → money (moved b f t a) ≡ money b
+  money_moved sound m =
       let kept = below_moved m.apart m.enough 10000 in
       let low : f ≤ 9999 = sound.0 f m.payer in
       let low2 : t ≤ 9999 = sound.0 t m.receiver in
       grind (arith, nat_tests)
 
-  pub sound_moved : Sound b → verdict ready b f t a ≡ Ok tt → Sound (moved b f t a)
-  sound_moved sound e =
-      let m = makable e in (
+  pub sound_moved : Sound b → Makable → Sound (moved b f t a)
+  sound_moved sound m = (
         λ k h. elim (cases_Bool (eqb k f)) [
           | inl u ↦ (let i = eqb-true k f u in let l = sound.0 f m.payer in omega arith)
           | inr u ↦ elim (cases_Bool (eqb k t)) [
@@ -71,11 +71,11 @@ module _ (ready : Bool) (b : ℕ → Option ℕ) (f t a : ℕ) where
 -- the two for any answer, as the house that gives it states them
 module _ (ready : Bool) (b c : ℕ → Option ℕ) (f t a : ℕ) (sound : Sound b) where
   pub money_kept : (r : Result (Unit {0}) Fault) → answer refusal r ≡ verdict ready b f t a → c ≡ after r (moved b f t a) b → money c ≡ money b
-  money_kept (Ok v) e s = ap money s ∙ money_moved ready b f t a sound (sym e)
+  money_kept (Ok v) e s = ap money s ∙ money_moved ready b f t a sound (makable ready b f t a e)
   money_kept (Err x) e s = ap money s
 
   pub sound_kept : (r : Result (Unit {0}) Fault) → answer refusal r ≡ verdict ready b f t a → c ≡ after r (moved b f t a) b → Sound c
-  sound_kept (Ok v) e s = subst Sound (sym s) (sound_moved ready b f t a sound (sym e))
+  sound_kept (Ok v) e s = subst Sound (sym s) (sound_moved ready b f t a sound (makable ready b f t a e))
   sound_kept (Err x) e s = subst Sound (sym s) sound
 
 -- balances are the same where accounts and money are
