@@ -46,10 +46,7 @@ module _ (f t a : ℕ) where
     out_now k = sum_by_push (takes k) es (Transfer f t a)
 
     booked_now : (k : ℕ) → booked (es ++ Transfer f t a ∷ []) k ≡ net (opening es k) (sum_by (brings k) es + cond (eqb k t) a 0) (sum_by (takes k) es + cond (eqb k f) a 0)
-    booked_now k =
-        ap (λ b. net (b k) (sum_by (brings k) (es ++ Transfer f t a ∷ [])) (sum_by (takes k) (es ++ Transfer f t a ∷ []))) (opening_push es)
-        ∙ ap (λ n. net (opening es k) n (sum_by (takes k) (es ++ Transfer f t a ∷ []))) (in_now k)
-        ∙ ap (λ n. net (opening es k) (sum_by (brings k) es + cond (eqb k t) a 0) n) (out_now k)
+    booked_now k = rw (ap (λ b. b k) (opening_push es), in_now k, out_now k)
 
     pub booked_push : booked (es ++ Transfer f t a ∷ []) ≡ moved (booked es) f t a
     booked_push = fun_ext (λ k. booked_now k ∙ elim (cases_Bool (eqb k f)) [
@@ -93,9 +90,7 @@ net_idle None = refl
 net_idle (Some n) = ap Some (omega arith)
 
 pub booked_opened : (os : List Told) → booked (map entry_of os) ≡ opened os
-booked_opened os = fun_ext (λ k.
-    ap (λ n. net (opening (map entry_of os) k) n (sum_by (takes k) (map entry_of os))) (idle (brings k) (λ o. refl) os)
-    ∙ ap (λ n. net (opening (map entry_of os) k) 0 n) (idle (takes k) (λ o. refl) os) ∙ net_idle (opening (map entry_of os) k) ∙ ap (λ b. b k) (opening_opened os))
+booked_opened os = fun_ext (λ k. rw (idle (brings k) (λ o. refl) os, idle (takes k) (λ o. refl) os, ap (λ b. b k) (opening_opened os)) (net_idle (opened os k)))
 
 pub covered_opened : (os : List Told) → Covered (map entry_of os)
 covered_opened os k = let e = idle (takes k) (λ o. refl) os in omega arith

@@ -16,10 +16,10 @@ list_passed os room e = (grind (arith, nat_tests), grind (arith, nat_tests), gri
 first : (o : Opening) (os : List Opening) → faulty (o ∷ os) ≡ false → (o.account ≤ 9999) × (o.balance ≤ 1000000000000000) × (faulty os ≡ false)
 first o os e = (grind (arith, nat_tests), grind (arith, nat_tests), grind (arith, nat_tests))
 
-pub limits : (os : List Opening) (i : ℕ) (d : Opening) → faulty os ≡ false → i < length os → ((get_or os i d).account ≤ 9999) × ((get_or os i d).balance ≤ 1000000000000000)
-limits [] i d e h = absurd (omega arith)
-limits (o ∷ os) zero d e h = let p = first o os e in (p.0, p.1)
-limits (o ∷ os) (suc i) d e h = limits os i d (first o os e).2 (omega arith)
+pub numbered : (os : List Opening) (i : ℕ) (d : Opening) → faulty os ≡ false → i < length os → (get_or os i d).account ≤ 9999
+numbered [] i d e h = absurd (omega arith)
+numbered (o ∷ os) zero d e h = (first o os e).0
+numbered (o ∷ os) (suc i) d e h = numbered os i d (first o os e).2 (omega arith)
 
 pub sound_opened : (os : List Opening) → faulty os ≡ false → Sound (opened os)
 sound_opened [] e = (λ k h. absurd (both_ways false refl h), λ k. omega arith)

@@ -32,25 +32,22 @@ fn list(heap: Global, openings: &[Opening], room: usize) -> Result<ListHouse, Fa
     Ok(ListHouse::make(openings, list, room))
 }
 
-// The number of the refusal, 0 for none.
-fn number(answer: Result<(), Fault>) -> u16 {
-    match answer {
-        Ok(()) => 0,
-        Err(fault) => fault.refusal().number,
-    }
+// The number of the refusal, if it is one.
+fn number(answer: Result<(), Fault>) -> Option<u16> {
+    answer.err().map(|fault| fault.refusal().number)
 }
 
-// Transfers, each with the number that it is to be answered with.
-fn play<C: House>(rt: &impl Abort, house: &mut C, script: &[(u64, u64, u64, u16)]) {
-    for (from, to, amount, due) in script {
-        assert_eq!(rt; number(house.transfer(*from, *to, *amount)), *due);
+// Transfers, each with the number of the refusal that it is to get, if any.
+fn play<C: House>(rt: &impl Abort, house: &mut C, script: &[(u64, u64, u64, Option<u16>)]) {
+    for &(from, to, amount, due) in script {
+        assert_eq!(rt; number(house.transfer(from, to, amount)), due);
     }
 }
 
 // Balances, none where the account is unknown.
 fn holds<C: House>(rt: &impl Abort, house: &mut C, balances: &[(u64, Option<u64>)]) {
-    for (account, balance) in balances {
-        assert_eq!(rt; house.balance(*account).ok(), *balance);
+    for &(account, balance) in balances {
+        assert_eq!(rt; house.balance(account).ok(), balance);
     }
 }
 
@@ -59,22 +56,22 @@ fn both_houses_answer_the_script(rt: HostRuntime) -> Result<(), Fail> {
     let mut one = table(rt.alloc(), &accounts())?;
     let mut other = Passing(list(rt.alloc(), &accounts(), 7)?);
     let script = [
-        (10, 1, 0, 12),
-        (10, 1, 4_000_000_001, 12),
-        (5, 5, 0, 12),
-        (10, 10, 1, 22),
-        (70_000, 70_000, 1, 22),
-        (70_000, 80_000, 1, 52),
-        (4_294_967_296, 1, 1, 52),
-        (1, 65_536, 1, 52),
-        (10, 2, 1, 52),
-        (2, 10, 1, 52),
-        (1, 9_999, 101, 53),
-        (1, 9_999, 6, 54),
-        (1, 9_999, 5, 0),
-        (1, 9_999, 1, 54),
-        (10, 0, 4_000_000_000, 0),
-        (0, 1, 4_000_000_000, 0),
+        (10, 1, 0, Some(12)),
+        (10, 1, 4_000_000_001, Some(12)),
+        (5, 5, 0, Some(12)),
+        (10, 10, 1, Some(22)),
+        (70_000, 70_000, 1, Some(22)),
+        (70_000, 80_000, 1, Some(52)),
+        (4_294_967_296, 1, 1, Some(52)),
+        (1, 65_536, 1, Some(52)),
+        (10, 2, 1, Some(52)),
+        (2, 10, 1, Some(52)),
+        (1, 9_999, 101, Some(53)),
+        (1, 9_999, 6, Some(54)),
+        (1, 9_999, 5, None),
+        (1, 9_999, 1, Some(54)),
+        (10, 0, 4_000_000_000, None),
+        (0, 1, 4_000_000_000, None),
     ];
     let left = [
         (0, Some(0)),
@@ -88,13 +85,17 @@ fn both_houses_answer_the_script(rt: HostRuntime) -> Result<(), Fail> {
     ];
     play(&rt, &mut one, &script);
     holds(&rt, &mut one, &left);
-    play(&rt, &mut one, &[(1, 10, 1, 0), (10, 1, 1, 0)]);
+    play(&rt, &mut one, &[(1, 10, 1, None), (10, 1, 1, None)]);
     play(&rt, &mut other, &script);
     holds(&rt, &mut other, &left);
     play(
         &rt,
         &mut other,
-        &[(1, 10, 1, 51), (1, 2, 1, 51), (1, 1, 1, 22)],
+        &[
+            (1, 10, 1, Some(51)),
+            (1, 2, 1, Some(51)),
+            (1, 1, 1, Some(22)),
+        ],
     );
     holds(&rt, &mut other, &left);
     Ok(())
@@ -106,7 +107,7 @@ fn entries_stand_in_order(rt: HostRuntime) -> Result<(), Fail> {
     play(
         &rt,
         &mut house,
-        &[(1, 0, 30, 0), (1, 0, 71, 53), (0, 10, 20, 0)],
+        &[(1, 0, 30, None), (1, 0, 71, Some(53)), (0, 10, 20, None)],
     );
     assert_eq!(rt; house.entries().len(), 6);
     let last = house.entries().last().copied();
@@ -171,13 +172,13 @@ fn limits_of_making(rt: HostRuntime) -> Result<(), Fail> {
     for account in 0..128 {
         many.push(opening(account, MOST))?;
     }
-    assert_eq!(rt; number(TableHouse::check(&many)), 0);
+    assert_eq!(rt; number(TableHouse::check(&many)), None);
     many.push(opening(9_999, 1))?;
-    assert_eq!(rt; number(TableHouse::check(&many)), 19);
-    assert_eq!(rt; number(ListHouse::check(&many, 129)), 0);
-    assert_eq!(rt; number(ListHouse::check(&many, 128)), 19);
-    assert_eq!(rt; number(ListHouse::check(&[], 1_024)), 0);
-    assert_eq!(rt; number(ListHouse::check(&[], 1_025)), 19);
+    assert_eq!(rt; number(TableHouse::check(&many)), Some(19));
+    assert_eq!(rt; number(ListHouse::check(&many, 129)), None);
+    assert_eq!(rt; number(ListHouse::check(&many, 128)), Some(19));
+    assert_eq!(rt; number(ListHouse::check(&[], 1_024)), None);
+    assert_eq!(rt; number(ListHouse::check(&[], 1_025)), Some(19));
     Ok(())
 }
 
@@ -191,25 +192,29 @@ fn accounts_that_are_refused(rt: HostRuntime) {
     ];
     for last in bad {
         let openings = [opening(1, 0), last];
-        assert_eq!(rt; number(TableHouse::check(&openings)), 26);
-        assert_eq!(rt; number(ListHouse::check(&openings, 2)), 26);
-        assert_eq!(rt; number(ListHouse::check(&openings, 1)), 19);
+        assert_eq!(rt; number(TableHouse::check(&openings)), Some(26));
+        assert_eq!(rt; number(ListHouse::check(&openings, 2)), Some(26));
+        assert_eq!(rt; number(ListHouse::check(&openings, 1)), Some(19));
     }
 }
 
 #[test]
 fn houses_without_accounts_or_entries(rt: HostRuntime) -> Result<(), Fail> {
     let mut bare = table(rt.alloc(), &[])?;
-    play(&rt, &mut bare, &[(0, 1, 1, 52)]);
+    play(&rt, &mut bare, &[(0, 1, 1, Some(52))]);
     holds(&rt, &mut bare, &[(0, None)]);
     let mut full = list(rt.alloc(), &accounts(), 4)?;
-    play(&rt, &mut full, &[(10, 1, 1, 51)]);
+    play(&rt, &mut full, &[(10, 1, 1, Some(51))]);
     holds(&rt, &mut full, &[(1, Some(100))]);
     let mut shut = Shut(table(rt.alloc(), &accounts())?);
     play(
         &rt,
         &mut shut,
-        &[(1, 2, 0, 12), (10, 10, 1, 22), (10, 1, 1, 51)],
+        &[
+            (1, 2, 0, Some(12)),
+            (10, 10, 1, Some(22)),
+            (10, 1, 1, Some(51)),
+        ],
     );
     holds(&rt, &mut shut, &[(1, Some(100))]);
     Ok(())

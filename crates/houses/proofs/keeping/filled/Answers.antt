@@ -1,12 +1,12 @@
 use Rattle.std.proofs.Common.{map, ap, ◌∙◌}
 use Rattle.std.proofs.lemmas.List.{take_all}
 use Rattle.houses.specs.Lists.{first_told}
-use Rattle.houses.proofs.Opened.{limits}
+use Rattle.houses.proofs.Opened.{numbered}
 use Rattle.houses.proofs.Lists.{told_of}
 use Rattle.houses.proofs.keeping.filled.Goals as goal
 
 pub keep-requires : goal.keep-requires
-keep-requires g c = (limits c.args.openings.now c.loop-opening.opening-index _ c.requires.faultless c.loop-opening-test.true).0
+keep-requires g c = numbered c.args.openings.now c.loop-opening.opening-index _ c.requires.faultless c.loop-opening-test.true
 
 pub returns-clause-balances : goal.returns-clause-balances
 returns-clause-balances g c =
