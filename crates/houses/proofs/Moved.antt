@@ -49,24 +49,25 @@ module _ (ready : Bool) (b : ℕ → Option ℕ) (f t a : ℕ) where
   pub money_moved : Sound b → Makable → money (moved b f t a) ≡ money b
   money_moved sound m =
       let kept = below_moved m.apart m.enough 10000 in
-      let low : f ≤ 9999 = sound.0 f m.payer in
-      let low2 : t ≤ 9999 = sound.0 t m.receiver in
+      let low : f ≤ 9999 = sound.numbers f m.payer in
+      let low2 : t ≤ 9999 = sound.numbers t m.receiver in
       grind (arith, nat_tests)
 
   pub sound_moved : Sound b → Makable → Sound (moved b f t a)
-  sound_moved sound m = (
-        λ k h. elim (cases_Bool (eqb k f)) [
-          | inl u ↦ (let i = eqb-true k f u in let l = sound.0 f m.payer in omega arith)
+  sound_moved sound m =
+      record {
+        numbers = λ k h. elim (cases_Bool (eqb k f)) [
+          | inl u ↦ (let i = eqb-true k f u in let l = sound.numbers f m.payer in omega arith)
           | inr u ↦ elim (cases_Bool (eqb k t)) [
-            | inl v ↦ (let i = eqb-true k t v in let l = sound.0 t m.receiver in omega arith)
-            | inr v ↦ sound.0 k (simp (u, v) at h)
+            | inl v ↦ (let i = eqb-true k t v in let l = sound.numbers t m.receiver in omega arith)
+            | inr v ↦ sound.numbers k (simp (u, v) at h)
           ]
-        ],
-        λ k. elim (cases_Bool (eqb k f)) [
-          | inl u ↦ simp u (omega (arith, sound.1 f))
-          | inr u ↦ elim (cases_Bool (eqb k t)) [ inl v ↦ simp (u, v) m.room | inr v ↦ simp (u, v) (sound.1 k) ]
-        ],
-      )
+        ];
+        amounts = λ k. elim (cases_Bool (eqb k f)) [
+          | inl u ↦ simp u (omega (arith, sound.amounts f))
+          | inr u ↦ elim (cases_Bool (eqb k t)) [ inl v ↦ simp (u, v) m.room | inr v ↦ simp (u, v) (sound.amounts k) ]
+        ];
+      }
 
 -- the two for any answer, as the house that gives it states them
 module _ (ready : Bool) (b c : ℕ → Option ℕ) (f t a : ℕ) (sound : Sound b) where
@@ -80,7 +81,7 @@ module _ (ready : Bool) (b c : ℕ → Option ℕ) (f t a : ℕ) (sound : Sound 
 
 -- balances are the same where accounts and money are
 pub from_same : (b c : ℕ → Option ℕ) → Same b c → b ≡ c
-from_same b c s = fun_ext (λ k. go (b k) (c k) (s.0 k) (s.1 k))
+from_same b c s = fun_ext (λ k. go (b k) (c k) (s.accounts k) (s.amounts k))
   where
     go : (o p : Option ℕ) → is_some o ≡ is_some p → held o ≡ held p → o ≡ p
     go None None e h = refl
@@ -89,4 +90,4 @@ from_same b c s = fun_ext (λ k. go (b k) (c k) (s.0 k) (s.1 k))
     go (Some m) (Some n) e h = ap Some h
 
 pub to_same : (b c : ℕ → Option ℕ) → b ≡ c → Same b c
-to_same b c e = (λ k. ap (λ x. is_some (x k)) e, λ k. ap (λ x. held (x k)) e)
+to_same b c e = record { accounts = λ k. ap (λ x. is_some (x k)) e; amounts = λ k. ap (λ x. held (x k)) e }

@@ -22,9 +22,10 @@ numbered (o ∷ os) zero d e h = (first o os e).0
 numbered (o ∷ os) (suc i) d e h = numbered os i d (first o os e).2 (omega arith)
 
 pub sound_opened : (os : List Opening) → faulty os ≡ false → Sound (opened os)
-sound_opened [] e = (λ k h. absurd (both_ways false refl h), λ k. omega arith)
+sound_opened [] e = record { numbers = λ k h. absurd (both_ways false refl h); amounts = λ k. omega arith }
 sound_opened (o ∷ os) e =
-    let p = first o os e in let rest = sound_opened os p.2 in (
-      λ k h. elim (cases_Bool (eqb k o.account)) [ inl u ↦ (let i = eqb-true k o.account u in omega (arith, p.0)) | inr u ↦ rest.0 k (simp u at h) ],
-      λ k. elim (cases_Bool (eqb k o.account)) [ inl u ↦ simp u p.1 | inr u ↦ simp u (rest.1 k) ],
-    )
+    let p = first o os e in let rest = sound_opened os p.2 in
+    record {
+      numbers = λ k h. elim (cases_Bool (eqb k o.account)) [ inl u ↦ (let i = eqb-true k o.account u in omega (arith, p.0)) | inr u ↦ rest.numbers k (simp u at h) ];
+      amounts = λ k. elim (cases_Bool (eqb k o.account)) [ inl u ↦ simp u p.1 | inr u ↦ simp u (rest.amounts k) ];
+    }

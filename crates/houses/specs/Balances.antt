@@ -10,12 +10,14 @@ abbrev pub held : Option ℕ → ℕ
 held b = unwrap_or b 0
 
 -- accounts have numbers up to 9,999 and balances up to 10^15
-abbrev pub Sound : (ℕ → Option ℕ) → Type 0
-Sound b = ((k : ℕ) → is_some (b k) ≡ true → k ≤ 9999) × ((k : ℕ) → held (b k) ≤ 1000000000000000)
+pub record Sound (b : ℕ → Option ℕ) : Type 0 where
+  pub numbers : (k : ℕ) → is_some (b k) ≡ true → k ≤ 9999
+  pub amounts : (k : ℕ) → held (b k) ≤ 1000000000000000
 
 -- the same accounts with the same money
-abbrev pub Same : (ℕ → Option ℕ) → (ℕ → Option ℕ) → Type 0
-Same b c = ((k : ℕ) → is_some (b k) ≡ is_some (c k)) × ((k : ℕ) → held (b k) ≡ held (c k))
+pub record Same (b c : ℕ → Option ℕ) : Type 0 where
+  pub accounts : (k : ℕ) → is_some (b k) ≡ is_some (c k)
+  pub amounts : (k : ℕ) → held (b k) ≡ held (c k)
 
 -- the checks of a transfer in a house with the balances b, in order
 abbrev pub checks : Bool → (ℕ → Option ℕ) → ℕ → ℕ → ℕ → List Check

@@ -1,4 +1,4 @@
-use Rattle.std.proofs.Common.{◌≡◌, ℕ, ◌+◌, ◌-◌, Bool, ltb, List, vec_items, sym, ap, ◌∙◌, subst, rules, arith}
+use Rattle.std.proofs.Common.{◌≡◌, Bool, ltb, List, vec_items, sym, ap, ◌∙◌, subst, rules, arith}
 use Rattle.std.proofs.lemmas.Bool.{ltb-true}
 use Rattle.houses.specs.declared.entries.Entry.{Entry}
 use Rattle.houses.specs.Balances.{Sound, Same, moved, money}
