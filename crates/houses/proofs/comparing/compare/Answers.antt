@@ -7,8 +7,11 @@ use Rattle.houses.proofs.comparing.compare.Given as given
 use Rattle.houses.proofs.comparing.compare.Goals as goal
 use Rattle.houses.proofs.comparing.compare.Goals.{After-transfer-there}
 
+abbrev nothing : Transfer
+nothing = record { from = 0; to = 0; amount = 0 }
+
 abbrev next : (g : given.Over) (c : After-transfer-there g) → Transfer
-next g c = get_or c.args.transfers.now c.loop-i.i (record { from = 0; to = 0; amount = 0 })
+next g c = get_or c.args.transfers.now c.loop-i.i nothing
 
 here : (g : given.Over) (c : After-transfer-there g) → Asked (seen g.C.House.balances g.C.House.ready c.loop-i.one) (next g c) c.transfer-here.result (seen g.C.House.balances g.C.House.ready c.transfer-here.new.self)
 here g c = record { told = c.transfer-here.ensures.verdict; left = c.transfer-here.ensures.balances; still = c.transfer-here.ensures.ready }
@@ -19,7 +22,7 @@ there g c = record { told = c.transfer-there.ensures.verdict; left = c.transfer-
 pub returns-then-ne : goal.returns-then-ne
 returns-then-ne g c =
     let a = (goal.at.returns-then-ne g c).After-transfer-there in
-    let front = take_more c.args.transfers.now c.loop-i.i (record { from = 0; to = 0; amount = 0 }) c.loop-i-test.true in
+    let front = take_more c.args.transfers.now c.loop-i.i nothing c.loop-i-test.true in
     let ne : c.transfer-here.result ≡ c.transfer-there.result → ⊥ = λ e. search rules in
     record {
       compared = apart (next g a) c.transfer-here.result c.transfer-there.result _ _ front c.loop-i.invariant (here g a) (there g a) ne;
@@ -32,7 +35,7 @@ loop-i-init g c = none
 pub loop-i-preserved : goal.loop-i-preserved
 loop-i-preserved g c =
     let a = (goal.at.loop-i-preserved g c).After-transfer-there in
-    relisted (sym (take_more c.args.transfers.now c.loop-i.i (record { from = 0; to = 0; amount = 0 }) c.loop-i-test.true))
+    relisted (sym (take_more c.args.transfers.now c.loop-i.i nothing c.loop-i-test.true))
     (more (next g a) c.transfer-here.result _ _ c.loop-i.invariant (here g a) (reanswered (search rules) (there g a)))
 
 pub returns : goal.returns
