@@ -1,5 +1,4 @@
-use Rattle.std.proofs.Common.{get_or, set, is_some, ap, ◌∙◌, arith, below_more}
-use Rattle.std.proofs.lemmas.List.{set-get_or}
+use Rattle.std.proofs.Common.{get_or, set, is_some, ap, ◌∙◌, arith}
 use Rattle.std.proofs.lemmas.Bool.{both_ways}
 use Rattle.houses.specs.declared.table.Account.{Account}
 use Rattle.houses.specs.Table.{kept}
@@ -14,11 +13,6 @@ returns-then-from-number c =
     let i = c.loop-account.account-index in
     ap (λ xs. kept (set xs i (record { number = (get_or xs i none).number; balance = c.args.balance }))) c.loop-account.invariant.same
     ∙ write_first c.args.accounts.now i c.args.number c.args.balance none c.loop-account-test.true c.loop-account.invariant.absent (cc)
-
-pub loop-account-preserved : goal.loop-account-preserved
-loop-account-preserved c =
-    let e = set-get_or c.loop-account.accounts c.loop-account.account-index none in
-    record { same = cc; absent = below_more _ _ c.loop-account.invariant.absent (λ n. c.if-from-number.false (cc)) }
 
 pub returns : goal.returns
 returns c =

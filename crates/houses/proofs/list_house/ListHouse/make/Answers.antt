@@ -7,12 +7,6 @@ use Rattle.houses.proofs.Moved.{to_same}
 use Rattle.houses.proofs.Booked.{booked_opened, covered_opened, in_order_opened}
 use Rattle.houses.proofs.list_house.ListHouse.make.Goals as goal
 
-pub filled-entries-requires-clause-faultless : goal.filled-entries-requires-clause-faultless
-filled-entries-requires-clause-faultless c = (list_passed c.args.openings.now c.args.room c.requires.checked).2
-
-pub filled-entries-requires-clause-room : goal.filled-entries-requires-clause-room
-filled-entries-requires-clause-room c = let p = list_passed c.args.openings.now c.args.room c.requires.checked in omega (arith, c.requires.room)
-
 pub invariant_of-result : goal.invariant_of-result
 invariant_of-result c =
     let os = c.args.openings.now in
