@@ -1,5 +1,6 @@
 -- The case that someone holds, and the one that is open.
 use Rattle.std.specs.Prelude.{◌≡◌, ℕ, Some, None, Option}
+use Rattle.std.specs.Option.{ForSome}
 use Rattle.book.specs.declared.cases.Case.{Case}
 use Rattle.book.specs.declared.rows.OpenCase.{OpenCase as Open}
 
@@ -9,5 +10,4 @@ open_number (Some c) = Some c.number
 
 -- where a case is held it is the open one
 abbrev pub Holding : Option Case → Option Open → Type 0
-Holding None o = Unit {0}
-Holding (Some c) o = open_number o ≡ Some c.number
+Holding held o = ForSome held (λ c. open_number o ≡ Some c.number)

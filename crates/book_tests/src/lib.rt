@@ -11,6 +11,8 @@ mod days;
 #[cfg(test)]
 mod defaults;
 #[cfg(test)]
+mod desk;
+#[cfg(test)]
 mod funds;
 #[cfg(test)]
 mod lists;
@@ -20,8 +22,6 @@ mod making;
 mod members;
 #[cfg(test)]
 mod playing;
-#[cfg(test)]
-mod shut;
 #[cfg(test)]
 mod strangers;
 #[cfg(test)]

@@ -27,9 +27,9 @@ const OTHER: Isin = Isin {
     bytes: *b"PL0000000002",
 };
 
-const MALFORMED: Isin = Isin { bytes: [255; 12] };
+pub(crate) const MALFORMED: Isin = Isin { bytes: [255; 12] };
 
-const SHARE: Security = Security {
+pub(crate) const SHARE: Security = Security {
     isin: ISIN,
     price: 1_000,
     risk: 1_250,
@@ -41,14 +41,14 @@ const RISKY: Security = Security {
     ..SHARE
 };
 
-const BOUGHT: Trade = Trade {
+pub(crate) const BOUGHT: Trade = Trade {
     isin: ISIN,
     side: Side::Bought,
     quantity: 50_000,
     price: 1_040,
 };
 
-const SOLD: Trade = Trade {
+pub(crate) const SOLD: Trade = Trade {
     isin: ISIN,
     side: Side::Sold,
     quantity: 20_000,

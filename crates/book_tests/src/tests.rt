@@ -1,60 +1,19 @@
+// The calls one by one: each answer, the rows and the balances. The other tests play such days as tables, over both houses.
+use crate::calls::refusal;
 use crate::cases::{close_elsewhere, told, try_case};
+use crate::lists::{BOUGHT, MALFORMED, SHARE, SOLD};
+use crate::making::{Account, FOUR, over_table, table};
 use book::{Book, Standing};
-use contribution::{Isin, MINIMUM, Security, Side, Trade};
-use division::{Layer, Refusal};
-use houses::{House, Opening, TableHouse};
+use contribution::{MINIMUM, Trade};
+use houses::{House, TableHouse};
 use std::alloc::Global;
+use std::iter;
 use std::process::Abort;
 use std::test::Fail;
 
-const fn account(account: u64, balance: u64) -> Opening {
-    Opening { account, balance }
-}
-
-const fn by_book(number: u16) -> Refusal {
-    Refusal {
-        number,
-        layer: Layer::Book,
-        place: 0,
-    }
-}
-
-const fn by_house(number: u16) -> Refusal {
-    Refusal {
-        number,
-        layer: Layer::House,
-        place: 0,
-    }
-}
-
-fn table(heap: Global, accounts: &[Opening]) -> Result<TableHouse, Fail> {
-    TableHouse::check(accounts)?;
-    let list = Vec::with_capacity(heap, accounts.len())?;
-    Ok(TableHouse::make(accounts, list))
-}
-
-fn opened(heap: Global, accounts: &[Opening]) -> Result<Book<TableHouse>, Fail> {
-    let mut house = table(heap, accounts)?;
-    match Book::check(&mut house) {
-        Ok(()) => {
-            let list = Vec::with_capacity(heap, 64)?;
-            Ok(Book::open(house, list))
-        }
-        Err(_) => Err(Fail::new("no book over this house")),
-    }
-}
-
 // The worked example of the rules: members 10 to 13 join.
 fn four(rt: &impl Abort, heap: Global) -> Result<Book<TableHouse>, Fail> {
-    let accounts = [
-        account(0, 0),
-        account(1, 100),
-        account(10, 2_000_000),
-        account(11, 3_000_000),
-        account(12, 2_000_000),
-        account(13, 2_000_000),
-    ];
-    let mut book = opened(heap, &accounts)?;
+    let mut book = over_table(heap, FOUR)?;
     for code in 10..14 {
         assert_eq!(rt; told(book.join(code)), Ok(MINIMUM));
     }
@@ -64,9 +23,8 @@ fn four(rt: &impl Abort, heap: Global) -> Result<Book<TableHouse>, Fail> {
 // The code, the base, the reserve and the required contribution of each row, none of them charged.
 fn shows<C: House>(rt: &impl Abort, book: &Book<C>, lines: &[(u16, u64, u64, u64)]) {
     assert_eq!(rt; book.rows().len(), lines.len());
-    for (i, row) in book.rows().iter().enumerate() {
-        let line = (row.code, row.base, row.reserve, row.required);
-        assert_eq!(rt; Some(line), lines.get(i).copied());
+    for (row, line) in book.rows().iter().zip(lines) {
+        assert_eq!(rt; (row.code, row.base, row.reserve, row.required), *line);
         assert_eq!(rt; row.charged, 0);
     }
 }
@@ -74,8 +32,8 @@ fn shows<C: House>(rt: &impl Abort, book: &Book<C>, lines: &[(u16, u64, u64, u64
 // The standings of the rows.
 fn stands<C: House>(rt: &impl Abort, book: &Book<C>, standings: &[Standing]) {
     assert_eq!(rt; book.rows().len(), standings.len());
-    for (i, row) in book.rows().iter().enumerate() {
-        assert_eq!(rt; Some(row.standing), standings.get(i).copied());
+    for (row, standing) in book.rows().iter().zip(standings) {
+        assert_eq!(rt; row.standing, *standing);
     }
 }
 
@@ -87,17 +45,17 @@ fn holds<C: House>(rt: &impl Abort, book: &mut Book<C>, balances: &[(u64, u64)])
 
 #[test]
 fn a_book_opens_over_an_empty_fund(rt: HostRuntime) -> Result<(), Fail> {
-    let mut none = table(rt.alloc(), &[account(1, 0)])?;
-    assert_eq!(rt; told(Book::check(&mut none)), Err(by_house(52)));
-    let mut full = table(rt.alloc(), &[account(0, 1)])?;
-    assert_eq!(rt; told(Book::check(&mut full)), Err(by_book(43)));
-    let mut book = opened(rt.alloc(), &[account(0, 0)])?;
+    let mut none = table(rt.alloc(), &[(1, 0)])?;
+    assert_eq!(rt; told(Book::check(&mut none)), Err(refusal!(52, House)));
+    let mut full = table(rt.alloc(), &[(0, 1)])?;
+    assert_eq!(rt; told(Book::check(&mut full)), Err(refusal!(43, Book)));
+    let mut book = over_table(rt.alloc(), &[(0, 0)])?;
     shows(&rt, &book, &[]);
     assert_eq!(rt; book.shares(), 0);
     holds(&rt, &mut book, &[(0, 0)]);
-    assert_eq!(rt; told(book.balance(1)), Err(by_house(52)));
-    assert_eq!(rt; told(book.income(0)), Err(by_book(12)));
-    assert_eq!(rt; told(book.income(1)), Err(by_book(40)));
+    assert_eq!(rt; told(book.balance(1)), Err(refusal!(52, House)));
+    assert_eq!(rt; told(book.income(0)), Err(refusal!(12, Book)));
+    assert_eq!(rt; told(book.income(1)), Err(refusal!(40, Book)));
     Ok(())
 }
 
@@ -116,7 +74,7 @@ fn income_goes_to_the_reserves(rt: HostRuntime) -> Result<(), Fail> {
     assert_eq!(rt; book.shares(), 8_000_100);
     let balances = [(0, 8_000_100), (1, 0), (10, 0), (11, 1_000_000)];
     holds(&rt, &mut book, &balances);
-    assert_eq!(rt; told(book.income(1)), Err(by_house(53)));
+    assert_eq!(rt; told(book.income(1)), Err(refusal!(53, House)));
     shows(&rt, &book, &lines);
     holds(&rt, &mut book, &balances);
     Ok(())
@@ -124,21 +82,17 @@ fn income_goes_to_the_reserves(rt: HostRuntime) -> Result<(), Fail> {
 
 #[test]
 fn joins_that_are_refused(rt: HostRuntime) -> Result<(), Fail> {
-    let accounts = [
-        account(0, 0),
-        account(10, 5_000_000),
-        account(11, 1_999_999),
-    ];
-    let mut book = opened(rt.alloc(), &accounts)?;
+    let accounts = [(0, 0), (10, 5_000_000), (11, 1_999_999)];
+    let mut book = over_table(rt.alloc(), &accounts)?;
     assert_eq!(rt; told(book.join(10)), Ok(MINIMUM));
     let refused = [
-        (9, by_book(11)),
-        (10_000, by_book(11)),
-        (65_546, by_book(11)),
-        (4_294_967_306, by_book(11)),
-        (10, by_book(32)),
-        (12, by_house(52)),
-        (11, by_house(53)),
+        (9, refusal!(11, Book)),
+        (10_000, refusal!(11, Book)),
+        (65_546, refusal!(11, Book)),
+        (4_294_967_306, refusal!(11, Book)),
+        (10, refusal!(32, Book)),
+        (12, refusal!(52, House)),
+        (11, refusal!(53, House)),
     ];
     for (code, refusal) in refused {
         assert_eq!(rt; told(book.join(code)), Err(refusal));
@@ -154,20 +108,15 @@ fn joins_that_are_refused(rt: HostRuntime) -> Result<(), Fail> {
 
 #[test]
 fn the_fund_has_a_limit(rt: HostRuntime) -> Result<(), Fail> {
-    let accounts = [
-        account(0, 0),
-        account(1, 4_000_000_000),
-        account(10, 2_000_000),
-        account(11, 2_000_000),
-    ];
-    let mut book = opened(rt.alloc(), &accounts)?;
+    let accounts = [(0, 0), (1, 4_000_000_000), (10, 2_000_000), (11, 2_000_000)];
+    let mut book = over_table(rt.alloc(), &accounts)?;
     assert_eq!(rt; told(book.join(10)), Ok(MINIMUM));
-    assert_eq!(rt; told(book.income(4_000_000_001)), Err(by_book(12)));
-    assert_eq!(rt; told(book.income(3_998_000_001)), Err(by_book(34)));
+    assert_eq!(rt; told(book.income(4_000_000_001)), Err(refusal!(12, Book)));
+    assert_eq!(rt; told(book.income(3_998_000_001)), Err(refusal!(34, Book)));
     assert_eq!(rt; told(book.income(3_998_000_000)), Ok(3_998_000_000));
-    assert_eq!(rt; told(book.income(1)), Err(by_book(34)));
-    assert_eq!(rt; told(book.join(11)), Err(by_book(34)));
-    assert_eq!(rt; told(book.join(10)), Err(by_book(32)));
+    assert_eq!(rt; told(book.income(1)), Err(refusal!(34, Book)));
+    assert_eq!(rt; told(book.join(11)), Err(refusal!(34, Book)));
+    assert_eq!(rt; told(book.join(10)), Err(refusal!(32, Book)));
     shows(&rt, &book, &[(10, MINIMUM, 3_998_000_000, MINIMUM)]);
     holds(
         &rt,
@@ -177,54 +126,18 @@ fn the_fund_has_a_limit(rt: HostRuntime) -> Result<(), Fail> {
     Ok(())
 }
 
-const ISIN: Isin = Isin {
-    bytes: *b"PL0000000001",
-};
-
-const SECURITY: Security = Security {
-    isin: ISIN,
-    price: 1_000,
-    risk: 1_250,
-    rate: 10_000,
-};
-
-const BOUGHT: Trade = Trade {
-    isin: ISIN,
-    side: Side::Bought,
-    quantity: 50_000,
-    price: 1_040,
-};
-
-const SOLD: Trade = Trade {
-    isin: ISIN,
-    side: Side::Sold,
-    quantity: 20_000,
-    price: 990,
-};
-
-const MALFORMED: Trade = Trade {
-    isin: Isin { bytes: [255; 12] },
-    side: Side::Sold,
-    quantity: 20_000,
-    price: 990,
-};
-
 #[test]
 fn what_is_required_is_regulated(rt: HostRuntime) -> Result<(), Fail> {
-    let accounts = [
-        account(0, 0),
-        account(10, 10_000_000),
-        account(11, 5_949_999),
-    ];
-    let mut book = opened(rt.alloc(), &accounts)?;
+    let accounts = [(0, 0), (10, 10_000_000), (11, 5_949_999)];
+    let mut book = over_table(rt.alloc(), &accounts)?;
     for code in 10..12 {
         assert_eq!(rt; told(book.join(code)), Ok(MINIMUM));
-        let required = told(book.update(code, &[SECURITY], &[BOUGHT, SOLD]));
+        let required = told(book.update(code, &[SHARE], &[BOUGHT, SOLD]));
         assert_eq!(rt; required, Ok(5_950_000));
     }
     assert_eq!(rt; told(book.regulate(10)), Ok((3_950_000, 0)));
     assert_eq!(rt; told(book.regulate(10)), Ok((0, 0)));
-    assert_eq!(rt; told(book.regulate(11)), Err(by_house(53)));
+    assert_eq!(rt; told(book.regulate(11)), Err(refusal!(53, House)));
     shows(
         &rt,
         &book,
@@ -235,7 +148,7 @@ fn what_is_required_is_regulated(rt: HostRuntime) -> Result<(), Fail> {
         &mut book,
         &[(0, 7_950_000), (10, 4_050_000), (11, 3_949_999)],
     );
-    assert_eq!(rt; told(book.update(10, &[SECURITY], &[])), Ok(MINIMUM));
+    assert_eq!(rt; told(book.update(10, &[SHARE], &[])), Ok(MINIMUM));
     assert_eq!(rt; told(book.regulate(10)), Ok((0, 3_950_000)));
     shows(
         &rt,
@@ -252,23 +165,28 @@ fn what_is_required_is_regulated(rt: HostRuntime) -> Result<(), Fail> {
 
 #[test]
 fn updates_that_are_refused(rt: HostRuntime) -> Result<(), Fail> {
-    let mut book = opened(rt.alloc(), &[account(0, 0), account(10, 2_000_000)])?;
+    let mut book = over_table(rt.alloc(), &[(0, 0), (10, 2_000_000)])?;
     assert_eq!(rt; told(book.join(10)), Ok(MINIMUM));
-    let malformed = Refusal {
-        number: 13,
-        layer: Layer::Contribution,
-        place: 1,
-    };
-    let bad = [BOUGHT, MALFORMED];
-    assert_eq!(rt; told(book.update(9, &[SECURITY], &bad)), Err(by_book(11)));
-    assert_eq!(rt; told(book.update(10, &[SECURITY], &bad)), Err(malformed));
-    assert_eq!(rt; told(book.update(11, &[SECURITY], &bad)), Err(malformed));
+    let malformed = refusal!(13, Contribution, 1);
+    let bad = [
+        BOUGHT,
+        Trade {
+            isin: MALFORMED,
+            ..SOLD
+        },
+    ];
     assert_eq!(rt;
-        told(book.update(11, &[SECURITY], &[BOUGHT])),
-        Err(by_book(31))
+        told(book.update(9, &[SHARE], &bad)),
+        Err(refusal!(11, Book))
     );
-    assert_eq!(rt; told(book.regulate(10_000)), Err(by_book(11)));
-    assert_eq!(rt; told(book.regulate(11)), Err(by_book(31)));
+    assert_eq!(rt; told(book.update(10, &[SHARE], &bad)), Err(malformed));
+    assert_eq!(rt; told(book.update(11, &[SHARE], &bad)), Err(malformed));
+    assert_eq!(rt;
+        told(book.update(11, &[SHARE], &[BOUGHT])),
+        Err(refusal!(31, Book))
+    );
+    assert_eq!(rt; told(book.regulate(10_000)), Err(refusal!(11, Book)));
+    assert_eq!(rt; told(book.regulate(11)), Err(refusal!(31, Book)));
     shows(&rt, &book, &[(10, MINIMUM, 0, MINIMUM)]);
     holds(&rt, &mut book, &[(0, MINIMUM), (10, 0)]);
     Ok(())
@@ -279,8 +197,8 @@ fn a_member_leaves_and_joins_again(rt: HostRuntime) -> Result<(), Fail> {
     let mut book = four(&rt, rt.alloc())?;
     assert_eq!(rt; told(book.income(100)), Ok(100));
     assert_eq!(rt; told(book.leave(11)), Ok(2_000_025));
-    assert_eq!(rt; told(book.leave(11)), Err(by_book(31)));
-    assert_eq!(rt; told(book.leave(9)), Err(by_book(11)));
+    assert_eq!(rt; told(book.leave(11)), Err(refusal!(31, Book)));
+    assert_eq!(rt; told(book.leave(9)), Err(refusal!(11, Book)));
     holds(&rt, &mut book, &[(0, 6_000_075), (11, 3_000_025)]);
     assert_eq!(rt; told(book.join(11)), Ok(MINIMUM));
     let lines = [
@@ -297,14 +215,29 @@ fn a_member_leaves_and_joins_again(rt: HostRuntime) -> Result<(), Fail> {
 
 #[test]
 fn other_transfers_leave_the_fund_alone(rt: HostRuntime) -> Result<(), Fail> {
-    let accounts = [account(0, 0), account(1, 100), account(10, 2_000_007)];
-    let mut book = opened(rt.alloc(), &accounts)?;
+    let accounts = [(0, 0), (1, 100), (10, 2_000_007)];
+    let mut book = over_table(rt.alloc(), &accounts)?;
     assert_eq!(rt; told(book.join(10)), Ok(MINIMUM));
-    assert_eq!(rt; told(book.other_transfer(0, 10, 5)), Err(by_book(21)));
-    assert_eq!(rt; told(book.other_transfer(10, 0, 0)), Err(by_book(21)));
-    assert_eq!(rt; told(book.other_transfer(10, 1, 0)), Err(by_house(12)));
-    assert_eq!(rt; told(book.other_transfer(10, 10, 1)), Err(by_house(22)));
-    assert_eq!(rt; told(book.other_transfer(10, 1, 8)), Err(by_house(53)));
+    assert_eq!(rt;
+        told(book.other_transfer(0, 10, 5)),
+        Err(refusal!(21, Book))
+    );
+    assert_eq!(rt;
+        told(book.other_transfer(10, 0, 0)),
+        Err(refusal!(21, Book))
+    );
+    assert_eq!(rt;
+        told(book.other_transfer(10, 1, 0)),
+        Err(refusal!(12, House))
+    );
+    assert_eq!(rt;
+        told(book.other_transfer(10, 10, 1)),
+        Err(refusal!(22, House))
+    );
+    assert_eq!(rt;
+        told(book.other_transfer(10, 1, 8)),
+        Err(refusal!(53, House))
+    );
     assert_eq!(rt; told(book.other_transfer(10, 1, 7)), Ok(7));
     shows(&rt, &book, &[(10, MINIMUM, 0, MINIMUM)]);
     holds(&rt, &mut book, &[(0, MINIMUM), (1, 107), (10, 0)]);
@@ -313,17 +246,15 @@ fn other_transfers_leave_the_fund_alone(rt: HostRuntime) -> Result<(), Fail> {
 
 #[test]
 fn a_book_has_sixty_four_rows(rt: HostRuntime) -> Result<(), Fail> {
-    let mut accounts = Vec::with_capacity(rt.alloc(), 66)?;
-    accounts.push(account(0, 0))?;
-    for code in 10..75 {
-        accounts.push(account(code, MINIMUM))?;
-    }
-    let mut book = opened(rt.alloc(), &accounts)?;
+    let accounts: Vec<Account> = iter::once((0, 0))
+        .chain((10..75).map(|code| (code, MINIMUM)))
+        .collect(rt.alloc())?;
+    let mut book = over_table(rt.alloc(), &accounts)?;
     for code in 10..74 {
         assert_eq!(rt; told(book.join(code)), Ok(MINIMUM));
     }
-    assert_eq!(rt; told(book.join(10)), Err(by_book(32)));
-    assert_eq!(rt; told(book.join(74)), Err(by_book(33)));
+    assert_eq!(rt; told(book.join(10)), Err(refusal!(32, Book)));
+    assert_eq!(rt; told(book.join(74)), Err(refusal!(33, Book)));
     assert_eq!(rt; told(book.leave(42)), Ok(MINIMUM));
     assert_eq!(rt; told(book.join(74)), Ok(MINIMUM));
     assert_eq!(rt; book.shares(), 128_000_000);
@@ -336,17 +267,20 @@ fn cases_have_numbers_in_order(rt: HostRuntime) -> Result<(), Fail> {
     let first = try_case(&mut book, 10, 10)?;
     assert_eq!(rt; (first.number, first.closed), (1, 1));
     assert_eq!(rt; first.standing, Some(Standing::Defaulting));
-    assert_eq!(rt; first.answers.update, Err(by_book(35)));
-    assert_eq!(rt; first.answers.regulate, Err(by_book(35)));
-    assert_eq!(rt; first.answers.leave, Err(by_book(36)));
-    assert_eq!(rt; first.answers.open_case, by_book(36));
+    assert_eq!(rt; first.answers.update, Err(refusal!(35, Book)));
+    assert_eq!(rt; first.answers.regulate, Err(refusal!(35, Book)));
+    assert_eq!(rt; first.answers.leave, Err(refusal!(36, Book)));
+    assert_eq!(rt; first.answers.open_case, refusal!(36, Book));
     for (code, number) in [(9, 11), (14, 31), (10, 35)] {
-        assert_eq!(rt; try_case(&mut book, code, 10).err(), Some(by_book(number)));
+        assert_eq!(rt;
+            try_case(&mut book, code, 10).err(),
+            Some(refusal!(number, Book))
+        );
     }
     let second = try_case(&mut book, 11, 10)?;
     assert_eq!(rt; (second.number, second.closed), (2, 2));
-    assert_eq!(rt; second.answers.update, Err(by_book(35)));
-    assert_eq!(rt; second.answers.open_case, by_book(36));
+    assert_eq!(rt; second.answers.update, Err(refusal!(35, Book)));
+    assert_eq!(rt; second.answers.open_case, refusal!(36, Book));
     let standings = [
         Standing::Barred,
         Standing::Barred,
@@ -361,9 +295,9 @@ fn cases_have_numbers_in_order(rt: HostRuntime) -> Result<(), Fail> {
 fn a_case_bars_until_the_member_leaves(rt: HostRuntime) -> Result<(), Fail> {
     let mut book = four(&rt, rt.alloc())?;
     let _tried = try_case(&mut book, 10, 12)?;
-    assert_eq!(rt; told(book.update(10, &[], &[])), Err(by_book(35)));
-    assert_eq!(rt; told(book.regulate(10)), Err(by_book(35)));
-    assert_eq!(rt; told(book.join(10)), Err(by_book(32)));
+    assert_eq!(rt; told(book.update(10, &[], &[])), Err(refusal!(35, Book)));
+    assert_eq!(rt; told(book.regulate(10)), Err(refusal!(35, Book)));
+    assert_eq!(rt; told(book.join(10)), Err(refusal!(32, Book)));
     assert_eq!(rt; told(book.leave(10)), Ok(MINIMUM));
     assert_eq!(rt; told(book.join(10)), Ok(MINIMUM));
     stands(&rt, &book, &[Standing::Active; 4]);
@@ -373,21 +307,17 @@ fn a_case_bars_until_the_member_leaves(rt: HostRuntime) -> Result<(), Fail> {
 
 #[test]
 fn nothing_is_paid_out_during_a_case(rt: HostRuntime) -> Result<(), Fail> {
-    let accounts = [
-        account(0, 0),
-        account(10, 2_000_000),
-        account(11, 6_000_000),
-    ];
-    let mut book = opened(rt.alloc(), &accounts)?;
+    let accounts = [(0, 0), (10, 2_000_000), (11, 6_000_000)];
+    let mut book = over_table(rt.alloc(), &accounts)?;
     assert_eq!(rt; told(book.join(10)), Ok(MINIMUM));
     assert_eq!(rt; told(book.join(11)), Ok(MINIMUM));
-    let required = told(book.update(11, &[SECURITY], &[BOUGHT, SOLD]));
+    let required = told(book.update(11, &[SHARE], &[BOUGHT, SOLD]));
     assert_eq!(rt; required, Ok(5_950_000));
     assert_eq!(rt; told(book.regulate(11)), Ok((3_950_000, 0)));
     let tried = try_case(&mut book, 10, 11)?;
     assert_eq!(rt; tried.answers.update, Ok(MINIMUM));
-    assert_eq!(rt; tried.answers.regulate, Err(by_book(36)));
-    assert_eq!(rt; tried.answers.leave, Err(by_book(36)));
+    assert_eq!(rt; tried.answers.regulate, Err(refusal!(36, Book)));
+    assert_eq!(rt; tried.answers.leave, Err(refusal!(36, Book)));
     shows(
         &rt,
         &book,
@@ -403,7 +333,7 @@ fn a_case_closes_in_its_own_book(rt: HostRuntime) -> Result<(), Fail> {
     let mut book = four(&rt, rt.alloc())?;
     let mut other = four(&rt, rt.alloc())?;
     let closed = close_elsewhere(&mut book, &mut other, 10);
-    assert_eq!(rt; closed, Ok((Some(by_book(37)), 1)));
+    assert_eq!(rt; closed, Ok((Some(refusal!(37, Book)), 1)));
     let standings = [
         Standing::Barred,
         Standing::Active,

@@ -7,3 +7,5 @@ mod ready;
 mod shut;
 #[cfg(test)]
 mod tests;
+
+pub use shut::Shut;
