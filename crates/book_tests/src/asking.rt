@@ -70,6 +70,7 @@ const SIGHTS: [Call; 13] = [
     Balance(14),
 ];
 
+// A `for`, since no clause of `map` says what its closure leaves of the book.
 pub(crate) fn look<C: House>(book: &mut Book<C>) -> [Answer; 13]
     ensures { book.new.case ≡ book.old.case }
 {
