@@ -14,7 +14,7 @@ use Rattle.book.specs.declared.standings.Event.TheVariants.{OpenCase, Update}
 use Rattle.book.specs.Groups.{weights}
 use Rattle.book.specs.Standings.{next}
 use Rattle.book.specs.Rows.{share, shares, place, row_of}
-use Rattle.book.specs.States.{State, admission, join_checks, update_checks, bad_code, no_row, forbidden, regulation, regulate_checks, settle_checks, missing, excess, departure, leave_checks, open_checks, is_open, close_checks, earning, income_checks, usage, use_checks, unrecovered, recovery, recover_checks, other_checks}
+use Rattle.book.specs.States.{State, admission, join_checks, update_checks, bad_code, no_row, forbidden, regulation, regulate_checks, settle_checks, missing, excess, departure, leave_checks, open_checks, is_open, earning, income_checks, usage, use_checks, unrecovered, recovery, recover_checks, other_checks}
 
 module _ (ready : Bool) (s : State) where
   pub join_tells : (code : ℕ) → Ok tt ≡ clear (join_checks ready s code) → (eqb 0 code ≡ false) × (is_some (place s.rows code) ≡ false)
@@ -58,6 +58,3 @@ module _ (s : State) where
   update_tells code ss ts e =
       let own = (clear_both (contribution.checks 64 128 ss ts) (no_row s code ∷ forbidden Update s code ∷ []) (clear_first (bad_code code) (contribution.checks 64 128 ss ts ++ (no_row s code ∷ forbidden Update s code ∷ [])) e).1).1 in
       grind (arith, nat_tests)
-
-  pub close_tells : (n : ℕ) → Ok tt ≡ clear (close_checks s n) → is_open s.case n ≡ true
-  close_tells n e = grind (arith, nat_tests)

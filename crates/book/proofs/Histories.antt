@@ -1,16 +1,17 @@
 -- What holds after a history of calls holds after one call more.
-use Rattle.std.proofs.Common.{◌≡◌, ℕ, ◌+◌, Bool, true, false, cond, not, ◌&&◌, eqb, List, [], ◌∷◌, is_some, is_ok, Some, None, Ok, Err, Option, Result, sym, refl, ap, ◌∙◌, subst, inl, inr, add-zero, arith}
+use Rattle.std.proofs.Common.{◌≡◌, IsErrAnd, ℕ, ◌+◌, Bool, true, false, cond, not, ◌&&◌, eqb, List, [], ◌∷◌, is_some, is_ok, Some, None, Ok, Err, Option, Result, sym, refl, ap, ◌∙◌, subst, inl, inr, add-zero, arith}
+use Rattle.std.proofs.lemmas.Result.{err_from_is_err_and}
 use Rattle.std.proofs.lemmas.Bool.Decides.{nat_tests}
 use Rattle.houses.specs.Balances.{held as held_in}
 use Rattle.houses.specs.Refusals.{by_house}
 use Rattle.book.specs.Refusals.{by_book}
 use Rattle.std.proofs.lemmas.Bool.{cases_Bool, false≢true}
 use Rattle.division.specs.declared.refusals.Refusal.{Refusal}
-use Rattle.division.specs.Refusals.{clear, checked, after}
+use Rattle.division.specs.Refusals.{answer, clear, checked, after}
 use Rattle.division.proofs.Checks.{checked_made, checked_refused}
 use Rattle.book.specs.Rows.{shares, place, row_of, required_as, based_as_required}
 use Rattle.book.specs.States.{State, opening_checks, opened_over, updated_to}
-use Rattle.book.specs.Calls.{Call, Answer, Join, Update, Regulate, Income, OpenCase, Use, Recover, Close, Leave, OtherTransfer, checks, value, effect, said, moves}
+use Rattle.book.specs.Calls.{Call, Answer, Join, Update, Regulate, Income, OpenCase, Use, Recover, Close, Leave, OtherTransfer, checks, value, effect, said, moves, entered}
 use Rattle.book.specs.Histories.{Turn, turn, book_after, filed, Kept}
 use Rattle.book.specs.Laws.{came_in, went_out, if_accepted, accused, owes_by, pays_up, charge, paid_in, paid_out, defaulter, owes, owed, charges_since, Lawful, GoesOn}
 use Rattle.book.proofs.Money.{Backed, Flow, flow_join, flow_update, flow_regulate, flow_income, flow_open, flow_use, flow_recover, flow_close, flow_leave, flow_other}
@@ -176,3 +177,13 @@ module _ {V : Type 0} (k : Call) (v : V) (ready ready-after : Bool) (s t : State
   accepted_goes_on f u answer filed state kept =
       let made = checked_made (checks k ready s) v u (value k s) answer in
       go_on k (Ok (f u)) ready ready-after s t (ap (λ x. Ok (f x)) made.0 ∙ ap Ok filed ∙ made.1) state kept
+
+-- the exit of a `?` that hands back the fault x: what it tells, and that the calls go on
+module _ {V E : Type 0} (tells : E → Refusal) (r : Result V E) {x : E} (back : IsErrAnd r (λ y. y ≡ x)) where
+  pub told : {c : Result V Refusal} → Err (tells x) ≡ c → answer tells r ≡ c
+  told e = let p = err_from_is_err_and r back in ap (answer tells) p.1 ∙ ap (λ y. Err (tells y)) p.2 ∙ e
+
+  pub stops : (k : Call) (v : V) {ready ready-after : Bool} {s t : State} (f : V → Answer) → Err (tells x) ≡ checked (checks k ready s) v → t ≡ s → ready-after ≡ ready → GoesOn k (entered f (answer tells r)) ready s ready-after t
+  stops k v {ready} {ready-after} {s} {t} f e state kept =
+      let p = err_from_is_err_and r back in
+      rw (p.1, p.2) (refused_goes_on k v ready ready-after s t (tells x) e state kept)

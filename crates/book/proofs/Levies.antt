@@ -14,12 +14,13 @@ use Rattle.book.specs.declared.rows.Row.{Row}
 use Rattle.book.specs.declared.rows.OpenCase.{OpenCase as Open}
 use Rattle.book.specs.declared.groups.Group.{Group}
 use Rattle.book.specs.declared.groups.Group.TheVariants.{OwnBase, OwnReserve, OtherBases, OtherReserves}
-use Rattle.book.specs.declared.groups.Basis.TheVariants.{Group as Of}
+use Rattle.book.specs.declared.groups.Basis.{Basis}
+use Rattle.book.specs.declared.groups.Basis.TheVariants.{Base, Charged, Group as Of}
 use Rattle.book.specs.Rows.{share, shares, charges, nobody}
 use Rattle.book.specs.Groups.{in_default, in_group, weights, has, charged_in, pays, levied, Levy, used_rows}
 use Rattle.book.specs.States.{State, is_open, charged_of, more_charged, usage}
 use Rattle.book.proofs.Parts.{no_change, kept_by_parts, sum_by_parts, none_in_sum}
-use Rattle.book.proofs.Credits.{parts_fit}
+use Rattle.book.proofs.Credits.{parts_fit, bases_within}
 
 -- a charge of 0 leaves a row as it was
 no_charge : (g : Group) (r : Row) → charged_in g r 0 ≡ r
@@ -80,6 +81,12 @@ has_within OwnBase rows = omega (arith, groups_are_all rows)
 has_within OwnReserve rows = omega (arith, groups_are_all rows)
 has_within OtherBases rows = omega (arith, groups_are_all rows)
 has_within OtherReserves rows = omega (arith, groups_are_all rows)
+
+-- no basis gives the rows more weight than a limit of both their sums
+pub weights_within : (basis : Basis) (rows : List Row) (n : ℕ) → shares rows ≤ n → charges rows ≤ n → sum (weights basis rows) ≤ n
+weights_within Base rows n h k = omega (arith, bases_within rows)
+weights_within Charged rows n h k = omega (arith, sum-map (λ r. r.charged) rows)
+weights_within (Of g) rows n h k = omega (arith, has_within g rows)
 
 -- a levy on one group leaves what the rows have in another
 pub other_group : (g h : Group) → (g ≡ h → ⊥) → (n : ℕ) (rows : List Row) → weights (Of h) (levied g n rows) ≡ weights (Of h) rows
@@ -142,8 +149,8 @@ module _ {g : Group} {rest n : ℕ} {rows new : List Row} (levy : Levy g rest ro
       (ap (λ l. shares l + n) levy.left ∙ shares_levied g n rows small, ap charges levy.left ∙ charges_levied g n rows small)
 
   -- and there is room for what is left of the rest
-  pub room_after : (shares rows ≤ 4000000000) × (charges rows + rest ≤ 4000000000) → (shares new ≤ 4000000000) × (charges new + (rest - n) ≤ 4000000000)
-  room_after room = (omega (arith, sums_after, room), omega (arith, sums_after, room, levy.most))
+  pub room_after : charges rows + rest ≤ 4000000000 → charges new + (rest - n) ≤ 4000000000
+  room_after room = omega (arith, sums_after, room, levy.most)
 
 -- the four groups in turn
 module _ {rows one two three four : List Row} {amount a b c d : ℕ} (first : Levy OwnBase amount rows a one) (second : Levy OwnReserve (amount - a) one b two)

@@ -1,14 +1,15 @@
 -- Whose rows a book has, and what a change of the rows does to that.
 use Rattle.std.proofs.Common.{◌≡◌, ℕ, suc, ◌+◌, true, false, cond, eqb, ◌⊎◌, List, [], ◌∷◌, ◌++◌, map, is_some, Some, None, sum_by, sym, refl, ap, ◌∙◌, inl, inr, add-zero, arith}
+use Rattle.std.specs.List.{position_from}
 use Rattle.std.proofs.lemmas.List.Sums.{sum_by-cons}
 use Rattle.std.proofs.lemmas.Bool.{cond-true, cond-false, cases_Bool, eq-eqb, true≢false, false≢true}
 use Rattle.std.proofs.lemmas.Bool.Decides.{nat_tests}
 use Rattle.book.specs.declared.rows.Row.{Row}
-use Rattle.book.specs.Rows.{place_from, place, row_of, changed, without, by_parts}
+use Rattle.book.specs.Rows.{place, row_of, changed, without, by_parts}
 use Rattle.book.specs.Laws.{Unique}
 
 -- where a row stands does not depend on where the count begins
-spot : (rows : List Row) (code : ℕ) → ((j : ℕ) → place_from j rows code ≡ None) ⊎ ((k : ℕ) × ((j : ℕ) → place_from j rows code ≡ Some (j + k)))
+spot : (rows : List Row) (code : ℕ) → ((j : ℕ) → position_from (λ r. eqb r.code code) j rows ≡ None) ⊎ ((k : ℕ) × ((j : ℕ) → position_from (λ r. eqb r.code code) j rows ≡ Some (j + k)))
 spot [] code = inl (λ j. refl)
 spot (r ∷ rows) code =
     elim (cases_Bool (eqb r.code code)) [

@@ -7,11 +7,11 @@ use Rattle.division.specs.Refusals.{clear}
 use Rattle.book.specs.declared.rows.Row.{Row}
 use Rattle.book.specs.declared.rows.OpenCase.{OpenCase as Open}
 use Rattle.book.specs.declared.standings.Event.TheVariants as event
-use Rattle.book.specs.Rows.{place, row_of, changed, credited, standing_after, case_closed}
+use Rattle.book.specs.Rows.{credit, place, row_of, changed, credited, standing_after, case_closed}
 use Rattle.book.specs.States.{State, newcomer, charged_of, more_charged, more_recovered, is_open}
 use Rattle.book.specs.Calls.{Join, OpenCase, Use, Close, Leave, checks, effect}
+use Rattle.book.proofs.Shares.{none_charged as none_left}
 use Rattle.book.specs.Laws.{Unique}
-use Rattle.book.proofs.Parts.{credit, credited_by_parts}
 use Rattle.book.proofs.Membership.{Each, each_by_parts, has_changed, unique_changed, sum_changed, unique_without, sum_without, has_more, unique_more, has_each, unique_each}
 use Rattle.book.proofs.Defaults.{Marked, Charged, each_used, marked_changed, marked_without, marked_more, marked_each, unmarked, marked_opened, marked_closed}
 use Rattle.book.specs.Groups.{used_rows}
@@ -52,7 +52,7 @@ pub record Credited (r t : Row) : Type 0 where
   pub charged : t.charged ≡ r.charged
 
 pub each_credited : (rows : List Row) (ps : List ℕ) → Each Credited rows (credited rows ps)
-each_credited rows ps = rw (credited_by_parts rows ps) (each_by_parts Credited (λ r. record { code = refl; standing = refl; base = refl; required = refl; charged = refl }) credit (λ r p. record { code = refl; standing = refl; base = refl; required = refl; charged = refl }) rows ps)
+each_credited rows ps = each_by_parts Credited (λ r. record { code = refl; standing = refl; base = refl; required = refl; charged = refl }) credit (λ r p. record { code = refl; standing = refl; base = refl; required = refl; charged = refl }) rows ps
 
 -- a row of a case that is over
 pub record Closed (r t : Row) : Type 0 where
@@ -70,10 +70,6 @@ sum_each R g same [] [] e = refl
 sum_each R g same [] (t ∷ ts) e = absurd e
 sum_each R g same (r ∷ rows) [] e = absurd e
 sum_each R g same (r ∷ rows) (t ∷ ts) e = omega (arith, sum_by-cons g t ts, sum_by-cons g r rows, same r t e.0, sum_each R g same rows ts e.1)
-
-none_left : (rows : List Row) → sum_by (λ r. r.charged) (map case_closed rows) ≡ 0
-none_left [] = refl
-none_left (r ∷ rows) = omega (arith, sum_by-cons (λ r. r.charged) (case_closed r) (map case_closed rows), none_left rows)
 
 module _ (d : ℕ) (s : State) (was : Ordered d s) where
   -- a change of one row that touches neither code, standing nor charged

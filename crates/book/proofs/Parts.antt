@@ -2,14 +2,9 @@
 use Rattle.std.proofs.Common.{◌≡◌, ℕ, zero, suc, ◌+◌, ◌<◌, List, [], ◌∷◌, map, length, get_or, take, set, sum_by, refl, ap, ◌∙◌, add-one, arith}
 use Rattle.std.proofs.lemmas.List.Sums.{sum_by-cons}
 use Rattle.book.specs.declared.rows.Row.{Row}
-use Rattle.book.specs.Rows.{nobody, by_parts, credited}
+use Rattle.book.specs.Rows.{nobody, by_parts}
 
 module _ (f : Row → ℕ → Row) where
-  pub length_by_parts : (rows : List Row) (ps : List ℕ) → length (by_parts f rows ps) ≡ length rows
-  length_by_parts rows [] = refl
-  length_by_parts [] (p ∷ ps) = refl
-  length_by_parts (r ∷ rows) (p ∷ ps) = ap suc (length_by_parts rows ps)
-
   same_there : (rows : List Row) (ps : List ℕ) (i : ℕ) (d : Row) → get_or (by_parts f rows (take i ps)) i d ≡ get_or rows i d
   same_there rows ps zero d = refl
   same_there rows [] (suc i) d = refl
@@ -53,17 +48,6 @@ module _ (f : Row → ℕ → Row) where
       let one = each 0 (omega arith) in
       let rest = sum_by_parts m less more rows ps (omega arith) (λ k h. each (suc k) (omega arith)) in
       omega (arith, sum_by-cons m (f r p) (by_parts f rows ps), sum_by-cons m r rows, sum_by-cons less p ps, sum_by-cons more p ps)
-
--- a row with a part added to its reserve
-abbrev pub credit : Row → ℕ → Row
-credit r p = record { code = r.code; standing = r.standing; base = r.base; reserve = r.reserve + p; required = r.required; charged = r.charged }
-
--- parts added to the reserves are rows changed each by its part
-pub credited_by_parts : (rows : List Row) (ps : List ℕ) → credited rows ps ≡ by_parts credit rows ps
-credited_by_parts [] [] = refl
-credited_by_parts [] (p ∷ ps) = refl
-credited_by_parts (r ∷ rows) [] = refl
-credited_by_parts (r ∷ rows) (p ∷ ps) = ap (λ l. credit r p ∷ l) (credited_by_parts rows ps)
 
 pub none_in_sum : {X : Type 0} (xs : List X) → sum_by (λ _. 0) xs ≡ 0
 none_in_sum [] = refl

@@ -2,7 +2,7 @@
 use Rattle.std.proofs.Common.{◌≡◌, ℕ, false, not, List, [], ◌∷◌, ◌++◌, Ok, Err, sym, ap, ◌∙◌}
 use Rattle.std.proofs.lemmas.Bool.{cond-false}
 use Rattle.division.specs.declared.refusals.Refusal.{Refusal}
-use Rattle.division.specs.Refusals.{Check, checked}
+use Rattle.division.specs.Refusals.{Check, checked, clear}
 use Rattle.division.proofs.Checks.{checked_refused, checked_made, first_refuses, second_refuses, both_pass}
 use Rattle.contribution.specs.declared.terms.Security.{Security}
 use Rattle.contribution.specs.declared.terms.Trade.{Trade}
@@ -11,8 +11,12 @@ use Rattle.contribution.specs.Checks.{within}
 use Rattle.contribution.specs.Steps.{calculated, renewed}
 use Rattle.contribution.specs.Contribution as contribution
 use Rattle.book.specs.declared.standings.Event.TheVariants.{Update}
+use Rattle.book.specs.declared.rows.Row.{Row}
 use Rattle.book.specs.Rows.{row_of}
-use Rattle.book.specs.States.{State, no_row, forbidden, update_checks, updated_to}
+use Rattle.book.specs.States.{State, bad_code, no_row, forbidden, update_checks, updated_to}
+
+pub by_code : (s : State) (code : ℕ) (ss : List Security) (ts : List Trade) (v : ℕ) (r : Refusal) → Err r ≡ clear (bad_code code ∷ []) → Err r ≡ checked (update_checks s code ss ts) v
+by_code s code ss ts v r e = first_refuses (bad_code code ∷ []) (contribution.checks 64 128 ss ts ++ (no_row s code ∷ forbidden Update s code ∷ [])) (tt {0}) v r e
 
 module _ (s : State) (code : ℕ) (ss : List Security) (ts : List Trade) (m v : ℕ) (ok : not (within 10 9999 code) ≡ false) where
   cs : List Check
@@ -30,11 +34,11 @@ module _ (s : State) (code : ℕ) (ss : List Security) (ts : List Trade) (m v : 
   by_contribution r e = first_refuses cs ds (contribution.assessment ss ts m) v r e ∙ sym past_code
 
   module _ (a : Assessment) (e : Ok a ≡ contribution.verdict ss ts m) where
-    pub by_standing : (k : ℕ) (r : Refusal) → Err r ≡ checked (no_row s code ∷ forbidden Update s code ∷ []) k → Err r ≡ checked (update_checks s code ss ts) v
+    pub by_standing : (k : ℕ × Row) (r : Refusal) → Err r ≡ checked (no_row s code ∷ forbidden Update s code ∷ []) k → Err r ≡ checked (update_checks s code ss ts) v
     unfolding cs ds
     by_standing k r f = second_refuses cs ds (contribution.assessment ss ts m) v a r e (checked_refused ds k (tt {0}) r f) ∙ sym past_code
 
-    pub accepted : (k i : ℕ) → Ok i ≡ checked (no_row s code ∷ forbidden Update s code ∷ []) k → Ok v ≡ checked (update_checks s code ss ts) v
+    pub accepted : (k i : ℕ × Row) → Ok i ≡ checked (no_row s code ∷ forbidden Update s code ∷ []) k → Ok v ≡ checked (update_checks s code ss ts) v
     unfolding cs ds
     accepted k i f = both_pass cs ds (contribution.assessment ss ts m) v a tt e (checked_made ds k i (tt {0}) f).1 ∙ sym past_code
 

@@ -1,5 +1,6 @@
 -- The rows of a book: who has one, and what they hold.
-use Rattle.std.specs.Prelude.{ℕ, ◌+◌, cond, List, [], ◌∷◌, Some, None, sum_by, Option, ◌==◌, slice_index_or}
+use Rattle.std.specs.Prelude.{◌≡◌, ℕ, ◌+◌, ◌<◌, cond, length, List, [], ◌∷◌, Some, None, sum_by, Option, ◌==◌, slice_index_or}
+use Rattle.std.specs.List.{position_from}
 use Rattle.std.specs.Option.{unwrap_or}
 use Rattle.book.specs.declared.rows.Row.{Row}
 use Rattle.book.specs.declared.standings.Event.{Event}
@@ -19,13 +20,9 @@ shares rows = sum_by share rows
 abbrev pub charges : List Row → ℕ
 charges rows = sum_by (λ r. r.charged) rows
 
--- where the row of the member with the code stands, counted from i
-abbrev pub place_from : ℕ → List Row → ℕ → Option ℕ
-place_from i [] code = None
-place_from i (r ∷ rows) code = cond (r.code == code) (Some i) (place_from (i + 1) rows code)
-
+-- where the row of the member with the code stands
 abbrev pub place : List Row → ℕ → Option ℕ
-place rows code = place_from 0 rows code
+place rows code = position_from (λ r. r.code == code) 0 rows
 
 -- that member's row changed, and no other
 abbrev pub changed : (Row → Row) → List Row → ℕ → List Row
@@ -48,6 +45,15 @@ row_at rows (Some i) = slice_index_or rows i nobody
 -- the row of the member with the code
 abbrev pub row_of : List Row → ℕ → Row
 row_of rows code = row_at rows (place rows code)
+
+-- the place of the member's row, with the row
+abbrev pub found : List Row → ℕ → ℕ × Row
+found rows code = (unwrap_or (place rows code) 0, row_of rows code)
+
+-- the member's row stands at the place i
+pub record Stands (rows : List Row) (code i : ℕ) : Type 0 where
+  pub here : place rows code ≡ Some i
+  pub inside : i < length rows
 
 -- a row with another required contribution
 abbrev pub required_as : ℕ → Row → Row
@@ -73,9 +79,10 @@ by_parts f rows [] = rows
 by_parts f [] (p ∷ ps) = []
 by_parts f (r ∷ rows) (p ∷ ps) = f r p ∷ by_parts f rows ps
 
+-- a row with a part added to its reserve
+abbrev pub credit : Row → ℕ → Row
+credit r p = record { code = r.code; standing = r.standing; base = r.base; reserve = r.reserve + p; required = r.required; charged = r.charged }
+
 -- the rows with parts added to their reserves
 abbrev pub credited : List Row → List ℕ → List Row
-credited [] ps = []
-credited (r ∷ rows) [] = r ∷ rows
-credited (r ∷ rows) (p ∷ ps) =
-    record { code = r.code; standing = r.standing; base = r.base; reserve = r.reserve + p; required = r.required; charged = r.charged } ∷ credited rows ps
+credited rows ps = by_parts credit rows ps

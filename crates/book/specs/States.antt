@@ -18,7 +18,7 @@ use Rattle.book.specs.declared.standings.Event.TheVariants.{Update, Regulate, Op
 use Rattle.book.specs.Refusals.{by_book}
 use Rattle.book.specs.Standings.{next}
 use Rattle.book.specs.declared.groups.Group.TheVariants.{OwnBase, OwnReserve, OtherBases, OtherReserves}
-use Rattle.book.specs.declared.groups.Basis.TheVariants.{Charged}
+use Rattle.book.specs.declared.groups.Basis.TheVariants.{Base, Charged}
 use Rattle.book.specs.Groups.{weights, pays, used_rows}
 use Rattle.book.specs.Rows.{share, shares, place, row_of, changed, without, required_as, based_as_required, standing_after, case_closed, credited}
 
@@ -42,6 +42,10 @@ opening_checks b = (not (is_some (b 0)), by_house 52) ∷ (not (held (b 0) == 0)
 abbrev pub opened_over : (ℕ → Option ℕ) → State
 opened_over b = record { rows = []; case = None; opened = 0; balances = b }
 
+-- an amount more that would pass what all members may have in the fund
+abbrev pub no_room : State → ℕ → Check
+no_room s more = (nat_lt 4000000000 (shares s.rows + more), by_book 34)
+
 -- a code that no member can have
 abbrev pub bad_code : ℕ → Check
 bad_code code = (not (within 10 9999 code), by_book 11)
@@ -56,7 +60,7 @@ admission s code =
     bad_code code
     ∷ (is_some (place s.rows code), by_book 32)
     ∷ (nat_le 64 (length s.rows), by_book 33)
-    ∷ (nat_lt 4000000000 (shares s.rows + minimum), by_book 34) ∷ []
+    ∷ no_room s minimum ∷ []
 
 -- the book's checks, and then the house's
 abbrev pub join_checks : Bool → State → ℕ → List Check
@@ -120,7 +124,7 @@ regulation s code =
     ∷ no_row s code
     ∷ forbidden Regulate s code
     ∷ (is_some s.case && nat_lt 0 (excess s code), by_book 36)
-    ∷ (nat_lt 4000000000 (shares s.rows + missing s code), by_book 34) ∷ []
+    ∷ no_room s (missing s code) ∷ []
 
 -- the difference is paid, if there is one
 abbrev pub regulate_checks : Bool → State → ℕ → List Check
@@ -174,7 +178,7 @@ closed s = record { rows = map case_closed s.rows; case = None; opened = s.opene
 
 -- the weights of an income
 abbrev pub bases : List Row → List ℕ
-bases rows = map (λ r. r.base) rows
+bases rows = weights Base rows
 
 -- an amount that is 0 or too much
 abbrev pub bad_amount : ℕ → Check
@@ -183,9 +187,9 @@ bad_amount amount = (not (within 1 4000000000 amount), by_book 12)
 -- what the book itself checks of an income
 abbrev pub earning : State → ℕ → List Check
 earning s amount =
-    (not (within 1 4000000000 amount), by_book 12)
+    bad_amount amount
     ∷ (sum (bases s.rows) == 0, by_book 40)
-    ∷ (nat_lt 4000000000 (shares s.rows + amount), by_book 34) ∷ []
+    ∷ no_room s amount ∷ []
 
 abbrev pub income_checks : Bool → State → ℕ → List Check
 income_checks ready s amount = earning s amount ++ house.checks ready s.balances 1 0 amount
@@ -243,7 +247,7 @@ recovery s n amount =
     bad_amount amount
     ∷ other_case s n
     ∷ (nat_lt (unrecovered s.case) amount, by_book 41)
-    ∷ (nat_lt 4000000000 (shares s.rows + amount), by_book 34) ∷ []
+    ∷ no_room s amount ∷ []
 
 abbrev pub recover_checks : Bool → State → ℕ → ℕ → List Check
 recover_checks ready s n amount = recovery s n amount ++ house.checks ready s.balances 1 0 amount

@@ -1,6 +1,6 @@
 // What an accepted call answered, whichever it was.
 
-#[derive(Clone, Copy)]
+#[derive(Clone, Copy, PartialEq, Eq, Debug)]
 pub enum Answer {
     // join, update, income, recover, leave, other transfer
     Amount(u64),

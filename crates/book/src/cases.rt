@@ -1,9 +1,10 @@
 // The case: opened by the book, and ended by its close alone.
-ghost use Rattle.std.specs.Prelude.{◌≡◌, ◌+◌, ◌<◌, [], ◌∷◌, map, IfOk, IfErr, Some, vec_len, OnOk};
+ghost use Rattle.std.specs.Prelude.{◌≡◌, ◌+◌, ◌<◌, [], ◌∷◌, IfOk, IfErr, OnOk};
 ghost use Rattle.std.specs.Option.{unwrap_or};
 ghost use Rattle.division.specs.Refusals.{answer, after, checked};
 ghost use Rattle.book.specs.Refusals.{refusal};
-ghost use Rattle.book.specs.Rows.{place, case_closed};
+ghost use Rattle.book.specs.Rows.{place, row_of, standing_after, Stands};
+ghost use Rattle.book.specs.declared.standings.Event.TheVariants.{OpenCase as Opens};
 ghost use Rattle.book.specs.States.{open_checks, case_opened, other_case, closed};
 ghost use Rattle.book.specs.Books.{view};
 ghost use Rattle.book.specs.Calls.{Close, Number, entered};
@@ -12,9 +13,8 @@ ghost use Rattle.book.specs.Laws.{GoesOn};
 
 use crate::books::Book;
 use crate::faults::Fault;
-use crate::members::is_code;
 use crate::rows::{OpenCase, Row};
-use crate::standings::{Event, turn};
+use crate::standings::Event;
 use houses::House;
 
 // The most cases of a book.
@@ -26,30 +26,21 @@ pub struct Case {
 }
 
 impl<C: House> Book<C> {
-    // The place of a member against whom a case can be opened.
-    fn opens(&self, code: u64) -> Result<usize, Fault>
-        ensures answer { answer refusal result ≡ checked (open_checks (view C.balances self.now) code) (unwrap_or (place self.now.table.rows.items code) 0) }
-        ensures found { IfOk result (λ i. (place self.now.table.rows.items code ≡ Some i) × (i < vec_len self.now.table.rows)) }
+    // The place of a member against whom a case can be opened, and its row with the case open.
+    fn opens(&self, code: u64) -> Result<(usize, Row), Fault>
+        ensures answer { answer refusal result ≡ checked (open_checks (view C.balances self.now) code) (unwrap_or (place self.now.table.rows.items code) 0, standing_after Opens (row_of self.now.table.rows.items code)) }
+        ensures stands { IfOk result (λ p. Stands self.now.table.rows.items code p.0) }
         ensures room { OnOk result (self.now.opened < 65535) }
     {
-        if !is_code(code) {
-            return Err(Fault::Code);
-        }
-        let place = self.table.place(code);
-        let Some(i) = place else {
-            return Err(Fault::NoRow);
-        };
+        let (i, row) = self.member(code)?;
         if self.case.is_some() {
             return Err(Fault::CaseOpen);
         }
-        let mut row = self.table.row(place);
-        if !turn(&mut row.standing, Event::OpenCase) {
-            return Err(Fault::NotActive);
-        }
+        let standing = row.standing.next(Event::OpenCase).ok_or(Fault::NotActive)?;
         if self.opened >= CASES {
             return Err(Fault::NoNumber);
         }
-        Ok(i)
+        Ok((i, Row { standing, ..row }))
     }
 
     // The member becomes defaulting, and the case gets the next number.
@@ -59,9 +50,9 @@ impl<C: House> Book<C> {
         ensures ready { C.ready self.new.house ≡ C.ready self.old.house }
         ensures history { GoesOn (call.OpenCase code) (entered (λ c. Number c.number) (answer refusal result)) (C.ready self.old.house) (view C.balances self.old) (C.ready self.new.house) (view C.balances self.new) }
     {
-        let i = self.opens(code)?;
+        let (i, row) = self.opens(code)?;
         let number = self.opened + 1;
-        turn(&mut self.table.row_mut(i).standing, Event::OpenCase);
+        self.table.set(i, row);
         self.case = Some(OpenCase {
             number,
             charged: 0,
@@ -69,15 +60,6 @@ impl<C: House> Book<C> {
         });
         self.opened = number;
         Ok(Case { number })
-    }
-}
-
-fn close_rows(rows: &mut [Row])
-    ensures { rows.new ≡ map case_closed rows.old }
-{
-    for row in rows.iter_mut() {
-        turn(&mut row.standing, Event::CloseCase);
-        row.charged = 0;
     }
 }
 
@@ -97,13 +79,11 @@ impl Case {
         ensures history { GoesOn (Close self.number) (entered Number (answer (λ e. refusal e.0) result)) (C.ready book.old.house) (view C.balances book.old) (C.ready book.new.house) (view C.balances book.new) }
     {
         let Case { number } = self;
-        match book.case {
-            Some(open) if open.number == number => {
-                close_rows(&mut book.table.rows);
-                book.case = None;
-                Ok(number)
-            }
-            _ => Err((Fault::OtherCase, Case { number })),
+        if book.open_with(number).is_none() {
+            return Err((Fault::OtherCase, Case { number }));
         }
+        book.table.close();
+        book.case = None;
+        Ok(number)
     }
 }

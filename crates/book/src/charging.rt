@@ -2,7 +2,7 @@
 ghost use Rattle.std.specs.Prelude.{◌≡◌, ℕ, ◌+◌, ◌<◌, ◌≤◌, length, sum, OnErr, slice_index, slice_index_or};
 ghost use Rattle.division.specs.Refusals.{answer, after, checked};
 ghost use Rattle.book.specs.Refusals.{refusal};
-ghost use Rattle.book.specs.Rows.{shares, charges, nobody};
+ghost use Rattle.book.specs.Rows.{charges, nobody};
 ghost use Rattle.book.specs.Groups.{in_group, has, charged_in, charged_all, pays, levied, Levy, used_rows};
 ghost use Rattle.book.specs.declared.groups.Group.TheVariants.{OwnBase, OwnReserve, OtherBases, OtherReserves};
 ghost use Rattle.book.specs.States.{more_charged, usage, use_checks, group_sums, used, more_recovered, recovery, recover_checks, recovered};
@@ -12,11 +12,12 @@ ghost use Rattle.book.specs.Laws.{GoesOn};
 
 use crate::books::Book;
 use crate::cases::Case;
+use crate::checks::check_amount;
 use crate::faults::Fault;
 use crate::groups::{Basis, Group};
 use crate::rows::{OpenCase, Row, Standing};
 use crate::settling::{FUND, LIMIT, SETTLEMENT};
-use crate::sharing::{distribute, share_out, total};
+use crate::table::Table;
 use houses::House;
 
 // Charges the part to what of the row is in the group.
@@ -47,46 +48,35 @@ fn charge(rows: &mut [Row], group: Group, parts: &[u64])
     }
 }
 
-// Divides what the group pays over its shares, and charges it there; the parts are left in the list.
-fn apportion(rows: &mut [Row], group: Group, paid: u64, parts: &mut [u64])
-    requires rows { (length rows.old ≤ 64) × (length parts.old ≡ length rows.old) }
-    requires paid { (0 < paid) × (paid ≤ has group rows.old) }
-    requires limits { (shares rows.old ≤ 4000000000) × (charges rows.old + paid ≤ 4000000000) }
-    ensures { rows.new ≡ levied group paid rows.old }
-{
-    share_out(rows, Basis::Group(group), paid, parts);
-    charge(rows, group, parts);
-}
-
-// Takes from the group what it can pay of the rest.
-fn levy(rows: &mut [Row], group: Group, rest: u64) -> u64
-    requires rows { length rows.old ≤ 64 }
-    requires limits { (shares rows.old ≤ 4000000000) × (charges rows.old + rest ≤ 4000000000) }
-    ensures { Levy group rest rows.old result rows.new }
-{
-    let paid = rest.min(total(rows, Basis::Group(group)));
-    if paid > 0 {
-        let mut parts = [0; 64];
-        let count = rows.len();
-        apportion(rows, group, paid, &mut parts[0..count]);
+impl Table {
+    // Takes from the group what it can pay of the rest, divided over its shares.
+    fn levy(&mut self, group: Group, rest: u64) -> u64
+        requires { charges self.old.rows.items + rest ≤ 4000000000 }
+        ensures { Levy group rest self.old.rows.items result self.new.rows.items }
+    {
+        let paid = rest.min(self.total(Basis::Group(group)));
+        if paid > 0 {
+            let parts = self.parts(Basis::Group(group), paid);
+            let count = self.rows.len();
+            charge(&mut self.rows, group, &parts[0..count]);
+        }
+        paid
     }
-    paid
-}
 
-// Takes the amount from the four groups, each in its turn what the earlier ones left, and tells what each paid.
-fn charge_groups(rows: &mut [Row], amount: u64) -> (u64, u64, u64, u64)
-    requires rows { length rows.old ≤ 64 }
-    requires limits { (shares rows.old ≤ 4000000000) × (charges rows.old + amount ≤ 4000000000) }
-    ensures paid { result ≡ (pays OwnBase rows.old amount, pays OwnReserve rows.old amount, pays OtherBases rows.old amount, pays OtherReserves rows.old amount) }
-    ensures rows { rows.new ≡ used_rows rows.old amount }
-{
-    let own_base = levy(rows, Group::OwnBase, amount);
-    let rest = amount - own_base;
-    let own_reserve = levy(rows, Group::OwnReserve, rest);
-    let rest = rest - own_reserve;
-    let bases = levy(rows, Group::OtherBases, rest);
-    let reserves = levy(rows, Group::OtherReserves, rest - bases);
-    (own_base, own_reserve, bases, reserves)
+    // Takes the amount from the four groups, each in its turn what the earlier ones left, and tells what each paid.
+    fn charge_groups(&mut self, amount: u64) -> (u64, u64, u64, u64)
+        requires { charges self.old.rows.items + amount ≤ 4000000000 }
+        ensures paid { result ≡ (pays OwnBase self.old.rows.items amount, pays OwnReserve self.old.rows.items amount, pays OtherBases self.old.rows.items amount, pays OtherReserves self.old.rows.items amount) }
+        ensures rows { self.new.rows.items ≡ used_rows self.old.rows.items amount }
+    {
+        let own_base = self.levy(Group::OwnBase, amount);
+        let rest = amount - own_base;
+        let own_reserve = self.levy(Group::OwnReserve, rest);
+        let rest = rest - own_reserve;
+        let bases = self.levy(Group::OtherBases, rest);
+        let reserves = self.levy(Group::OtherReserves, rest - bases);
+        (own_base, own_reserve, bases, reserves)
+    }
 }
 
 impl<C: House> Book<C> {
@@ -94,13 +84,8 @@ impl<C: House> Book<C> {
     fn usable(&self, number: u16, amount: u64) -> Result<Option<OpenCase>, Fault>
         ensures { answer refusal result ≡ checked (usage (view C.balances self.now) number amount) (more_charged amount self.now.case) }
     {
-        if !matches!(amount, 1..=LIMIT) {
-            return Err(Fault::Amount);
-        }
-        let open = match self.case {
-            Some(open) if open.number == number => open,
-            _ => return Err(Fault::OtherCase),
-        };
+        check_amount(amount)?;
+        let open = self.open_with(number).ok_or(Fault::OtherCase)?;
         if amount > self.table.shares() {
             return Err(Fault::AboveShares);
         }
@@ -120,7 +105,7 @@ impl<C: House> Book<C> {
     {
         let next = self.usable(case.number, amount)?;
         self.house.transfer(FUND, SETTLEMENT, amount)?;
-        let paid = charge_groups(&mut self.table.rows, amount);
+        let paid = self.table.charge_groups(amount);
         self.case = next;
         Ok(paid)
     }
@@ -129,19 +114,12 @@ impl<C: House> Book<C> {
     fn recoverable(&self, number: u16, amount: u64) -> Result<Option<OpenCase>, Fault>
         ensures { answer refusal result ≡ checked (recovery (view C.balances self.now) number amount) (more_recovered amount self.now.case) }
     {
-        if !matches!(amount, 1..=LIMIT) {
-            return Err(Fault::Amount);
-        }
-        let open = match self.case {
-            Some(open) if open.number == number => open,
-            _ => return Err(Fault::OtherCase),
-        };
+        check_amount(amount)?;
+        let open = self.open_with(number).ok_or(Fault::OtherCase)?;
         if amount > open.charged.saturating_sub(open.recovered) {
             return Err(Fault::AboveCharged);
         }
-        if self.table.shares() + amount > LIMIT {
-            return Err(Fault::Limit);
-        }
+        self.check_room(amount)?;
         let recovered = open.recovered + amount;
         Ok(Some(OpenCase { recovered, ..open }))
     }
@@ -154,8 +132,7 @@ impl<C: House> Book<C> {
         ensures history { GoesOn (Recover case.now.number amount) (entered Amount (answer refusal result)) (C.ready self.old.house) (view C.balances self.old) (C.ready self.new.house) (view C.balances self.new) }
     {
         let next = self.recoverable(case.number, amount)?;
-        self.house.transfer(SETTLEMENT, FUND, amount)?;
-        distribute(&mut self.table.rows, Basis::Charged, amount);
+        self.receive(Basis::Charged, amount)?;
         self.case = next;
         Ok(amount)
     }

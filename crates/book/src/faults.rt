@@ -5,7 +5,7 @@ ghost use Rattle.book.specs.Refusals.{refusal};
 
 use division::{Layer, Refusal};
 
-#[derive(Clone, Copy)]
+#[derive(Clone, Copy, PartialEq, Eq, Debug)]
 pub enum Fault {
     // a code outside 10 to 9,999
     Code,

@@ -5,6 +5,7 @@ mod answers;
 mod books;
 mod cases;
 mod charging;
+mod checks;
 mod faults;
 mod groups;
 mod members;

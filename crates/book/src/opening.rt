@@ -23,10 +23,9 @@ impl<C: House> Book<C> {
         ensures balances { C.balances house.new ≡ C.balances house.old }
         ensures ready { C.ready house.new ≡ C.ready house.old }
     {
-        match house.balance(FUND) {
-            Err(fault) => Err(Fault::House(fault)),
-            Ok(0) => Ok(()),
-            Ok(_) => Err(Fault::FundNotEmpty),
+        match house.balance(FUND)? {
+            0 => Ok(()),
+            _ => Err(Fault::FundNotEmpty),
         }
     }
 

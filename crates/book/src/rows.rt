@@ -9,7 +9,7 @@ pub enum Standing {
 }
 
 // One member: what is paid in as contribution and what was credited, what is required, and what the open case took.
-#[derive(Clone, Copy)]
+#[derive(Clone, Copy, PartialEq, Eq, Debug)]
 pub struct Row {
     pub code: Number,
     pub standing: Standing,
@@ -20,7 +20,7 @@ pub struct Row {
 }
 
 // The open case, with what its uses charged and what was recovered.
-#[derive(Clone, Copy)]
+#[derive(Clone, Copy, PartialEq, Eq, Debug)]
 pub struct OpenCase {
     pub number: u16,
     pub charged: u64,

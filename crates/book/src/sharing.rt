@@ -1,61 +1,34 @@
 // What comes in for all members, divided among them.
-ghost use Rattle.std.specs.Prelude.{◌≡◌, ◌+◌, ◌<◌, ◌≤◌, map, length, take, sum, OnErr};
+ghost use Rattle.std.specs.Prelude.{◌≡◌, ◌+◌, ◌<◌, ◌≤◌, length, take, sum, vec_len, OnErr};
 ghost use Rattle.division.specs.Division.{parts_of};
 ghost use Rattle.division.specs.Refusals.{answer, after, checked, clear};
+ghost use Rattle.houses.specs.Balances as house;
+ghost use Rattle.houses.specs.Balances.{moved};
 ghost use Rattle.book.specs.Refusals.{refusal};
 ghost use Rattle.book.specs.Rows.{shares, credited};
-ghost use Rattle.book.specs.Groups.{weight, weights};
-ghost use Rattle.book.specs.States.{earning, income_checks, earned};
+ghost use Rattle.book.specs.Groups.{weights};
+ghost use Rattle.book.specs.States.{earning, income_checks, earned, with_rows};
 ghost use Rattle.book.specs.Books.{view};
 ghost use Rattle.book.specs.Calls.{Income, Amount, entered};
 ghost use Rattle.book.specs.Laws.{GoesOn};
 
 use crate::books::Book;
+use crate::checks::check_amount;
 use crate::faults::Fault;
 use crate::groups::{Basis, weight};
 use crate::rows::Row;
-use crate::settling::{FUND, LIMIT, SETTLEMENT};
-use division::{Weighted, divide};
+use crate::settling::{FUND, SETTLEMENT};
+use crate::table::Table;
+use division::divide;
 use houses::House;
 
-// A row's weight in a division.
-#[derive(Clone, Copy)]
-struct Weight {
-    value: u64,
-}
-
-impl Weighted for Weight {
-    ghost weight = { λ w. w.value };
-
-    fn weight(&self) -> u64 {
-        self.value
-    }
-}
-
 // What the rows weigh, at the front of the list.
-fn weigh(rows: &[Row], basis: Basis, list: &mut [Weight])
+fn weigh(rows: &[Row], basis: Basis, list: &mut [u64])
     requires { length rows.now ≤ length list.old }
-    ensures { map (λ w. w.value) (take (length rows.now) list.new) ≡ weights basis rows.now }
+    ensures { take (length rows.now) list.new ≡ weights basis rows.now }
 {
     for (i, row) in rows.iter().enumerate() {
-        list[i] = Weight {
-            value: weight(basis, row),
-        };
-    }
-}
-
-// Divides the amount over the rows.
-pub(crate) fn share_out(rows: &[Row], basis: Basis, amount: u64, parts: &mut [u64])
-    requires rows { (length rows.now ≤ 64) × (length parts.old ≡ length rows.now) }
-    requires weights { (0 < sum (weights basis rows.now)) × (sum (weights basis rows.now) ≤ 4000000000) }
-    requires amount { amount ≤ 4000000000 }
-    ensures { parts.new ≡ parts_of amount (weights basis rows.now) }
-{
-    let mut weights = [Weight { value: 0 }; 64];
-    weigh(rows, basis, &mut weights);
-    match divide(amount, &weights[0..rows.len()], parts) {
-        Ok(()) => {}
-        Err(_) => unreachable(),
+        list[i] = weight(basis, row);
     }
 }
 
@@ -70,55 +43,71 @@ fn credit(rows: &mut [Row], parts: &[u64])
     }
 }
 
-// Divides the amount over the rows, onto their reserves; the parts are left in the list.
-fn spread(rows: &mut [Row], basis: Basis, amount: u64, parts: &mut [u64])
-    requires rows { (length rows.old ≤ 64) × (length parts.old ≡ length rows.old) }
-    requires weights { (0 < sum (weights basis rows.old)) × (sum (weights basis rows.old) ≤ 4000000000) }
-    requires limit { shares rows.old + amount ≤ 4000000000 }
-    ensures { rows.new ≡ credited rows.old (parts_of amount (weights basis rows.old)) }
-{
-    share_out(rows, basis, amount, parts);
-    credit(rows, parts);
-}
-
-pub(crate) fn distribute(rows: &mut [Row], basis: Basis, amount: u64)
-    requires rows { length rows.old ≤ 64 }
-    requires weights { (0 < sum (weights basis rows.old)) × (sum (weights basis rows.old) ≤ 4000000000) }
-    requires limit { shares rows.old + amount ≤ 4000000000 }
-    ensures { rows.new ≡ credited rows.old (parts_of amount (weights basis rows.old)) }
-{
-    let mut parts = [0; 64];
-    let count = rows.len();
-    spread(rows, basis, amount, &mut parts[0..count]);
-}
-
 // What the rows weigh together.
-pub(crate) fn total(rows: &[Row], basis: Basis) -> u64
+fn total(rows: &[Row], basis: Basis) -> u64
     requires { sum (weights basis rows.now) ≤ 4000000000 }
     ensures { result ≡ sum (weights basis rows.now) }
 {
-    let mut sum = 0;
-    for row in rows {
-        sum += weight(basis, row);
+    rows.iter().map(|row| weight(basis, row)).sum()
+}
+
+impl Table {
+    // What the rows weigh together.
+    pub(crate) fn total(&self, basis: Basis) -> u64
+        ensures { result ≡ sum (weights basis self.now.rows.items) }
+    {
+        total(self.rows.as_slice(), basis)
     }
-    sum
+
+    // The amount divided over the rows: a part for each, at the front of the list.
+    pub(crate) fn parts(&self, basis: Basis, amount: u64) -> [u64; 64]
+        requires some { 0 < sum (weights basis self.now.rows.items) }
+        requires amount { amount ≤ 4000000000 }
+        ensures { take (vec_len self.now.rows) result ≡ parts_of amount (weights basis self.now.rows.items) }
+    {
+        let count = self.rows.len();
+        let mut weights = [0; 64];
+        weigh(self.rows.as_slice(), basis, &mut weights);
+        let mut parts = [0; 64];
+        divide(amount, &weights[0..count], &mut parts[0..count]).unwrap();
+        parts
+    }
+
+    // Divides the amount over the rows, onto their reserves.
+    fn distribute(&mut self, basis: Basis, amount: u64)
+        requires some { 0 < sum (weights basis self.old.rows.items) }
+        requires limit { shares self.old.rows.items + amount ≤ 4000000000 }
+        ensures { self.new.rows.items ≡ credited self.old.rows.items (parts_of amount (weights basis self.old.rows.items)) }
+    {
+        let parts = self.parts(basis, amount);
+        let count = self.rows.len();
+        credit(&mut self.rows, &parts[0..count]);
+    }
 }
 
 impl<C: House> Book<C> {
+    // The amount comes from the settlement account and is divided onto the reserves.
+    pub(crate) fn receive(&mut self, basis: Basis, amount: u64) -> Result<(), Fault>
+        requires some { 0 < sum (weights basis self.old.table.rows.items) }
+        requires limit { shares self.old.table.rows.items + amount ≤ 4000000000 }
+        ensures answer { answer refusal result ≡ clear (house.checks (C.ready self.old.house) (C.balances self.old.house) 1 0 amount) }
+        ensures state { view C.balances self.new ≡ after result (with_rows (view C.balances self.old) (credited self.old.table.rows.items (parts_of amount (weights basis self.old.table.rows.items))) (moved (C.balances self.old.house) 1 0 amount)) (view C.balances self.old) }
+        ensures ready { OnErr result (C.ready self.new.house ≡ C.ready self.old.house) }
+    {
+        self.house.transfer(SETTLEMENT, FUND, amount)?;
+        self.table.distribute(basis, amount);
+        Ok(())
+    }
+
     // Whether an income can be shared, as far as the book knows.
     fn earns(&self, amount: u64) -> Result<(), Fault>
         ensures { answer refusal result ≡ clear (earning (view C.balances self.now) amount) }
     {
-        if !matches!(amount, 1..=LIMIT) {
-            return Err(Fault::Amount);
-        }
-        if total(self.table.rows.as_slice(), Basis::Base) == 0 {
+        check_amount(amount)?;
+        if self.table.total(Basis::Base) == 0 {
             return Err(Fault::NoBase);
         }
-        if self.table.shares() + amount > LIMIT {
-            return Err(Fault::Limit);
-        }
-        Ok(())
+        self.check_room(amount)
     }
 
     // The amount comes from the settlement account and is divided by base onto the reserves.
@@ -129,8 +118,7 @@ impl<C: House> Book<C> {
         ensures history { GoesOn (Income amount) (entered Amount (answer refusal result)) (C.ready self.old.house) (view C.balances self.old) (C.ready self.new.house) (view C.balances self.new) }
     {
         self.earns(amount)?;
-        self.house.transfer(SETTLEMENT, FUND, amount)?;
-        distribute(&mut self.table.rows, Basis::Base, amount);
+        self.receive(Basis::Base, amount)?;
         Ok(amount)
     }
 }

@@ -1,6 +1,5 @@
 // What a member's standing allows, and what becomes of it.
-ghost use Rattle.std.specs.Prelude.{◌≡◌, is_some};
-ghost use Rattle.std.specs.Option.{unwrap_or};
+ghost use Rattle.std.specs.Prelude.{◌≡◌};
 ghost use Rattle.book.specs.Standings.{next};
 
 use crate::rows::Standing;
@@ -14,23 +13,21 @@ pub(crate) enum Event {
     CloseCase,
 }
 
-// Changes the standing as the call asks, or tells that the standing forbids the call.
-pub(crate) fn turn(standing: &mut Standing, event: Event) -> bool
-    ensures allowed { result ≡ is_some (next standing.old event) }
-    ensures left { standing.new ≡ unwrap_or (next standing.old event) standing.old }
-{
-    match (*standing, event) {
-        (Standing::Active, Event::Update | Event::Regulate | Event::CloseCase) => true,
-        (Standing::Active, Event::OpenCase) => {
-            *standing = Standing::Defaulting;
-            true
+impl Standing {
+    // The standing after the call, if it allows the call.
+    pub(crate) fn next(self, event: Event) -> Option<Standing>
+        ensures { result ≡ next self event }
+    {
+        match (self, event) {
+            (Standing::Active, Event::OpenCase) => Some(Standing::Defaulting),
+            (Standing::Active, Event::Update | Event::Regulate | Event::CloseCase) => {
+                Some(Standing::Active)
+            }
+            (Standing::Defaulting | Standing::Barred, Event::CloseCase) => Some(Standing::Barred),
+            (
+                Standing::Defaulting | Standing::Barred,
+                Event::Update | Event::Regulate | Event::OpenCase,
+            ) => None,
         }
-        (Standing::Defaulting, Event::CloseCase) => {
-            *standing = Standing::Barred;
-            true
-        }
-        (Standing::Defaulting, Event::Update | Event::Regulate | Event::OpenCase) => false,
-        (Standing::Barred, Event::CloseCase) => true,
-        (Standing::Barred, Event::Update | Event::Regulate | Event::OpenCase) => false,
     }
 }

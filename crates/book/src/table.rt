@@ -1,39 +1,27 @@
 // The table of rows, in order of joining.
-ghost use Rattle.std.specs.Prelude.{◌≡◌, ◌<◌, ◌≤◌, length, IfSome, Some, vec_len, slice_index_or};
-ghost use Rattle.std.specs.Borrow.{sem, follows};
-ghost use Rattle.std.specs.Vec.{with_item};
-ghost use Rattle.book.specs.contracts.rows.Row.{the_row as of_row};
-ghost use Rattle.book.specs.contracts.table.Table.{the_row as of-table};
-ghost use Rattle.book.specs.Rows.{place, share, shares, row_at};
+ghost use Rattle.std.specs.Prelude.{◌≡◌, ◌+◌, ◌<◌, ◌≤◌, [], ◌∷◌, ◌++◌, map, IfSome, slice_set, vec_len, vec_capacity};
+ghost use Rattle.std.specs.Option.{MatchOption};
+ghost use Rattle.std.specs.List.{remove};
+ghost use Rattle.book.specs.Rows.{place, share, shares, charges, row_of, Stands, case_closed};
 
-use crate::rows::{Row, Standing};
-
-// What stands in for a row where there is none.
-const NOBODY: Row = Row {
-    code: 0,
-    standing: Standing::Active,
-    base: 0,
-    reserve: 0,
-    required: 0,
-    charged: 0,
-};
+use crate::rows::Row;
+use crate::standings::Event;
 
 #[derive(Drop)]
 pub(crate) struct Table {
     pub(crate) rows: Vec<Row>,
+    ghost few: { vec_len rows ≤ 64 },
+    ghost room: { 64 ≤ vec_capacity rows },
+    ghost limit: { shares rows.items ≤ 4000000000 },
+    ghost charged: { charges rows.items ≤ 4000000000 },
 }
 
 // Where the row of the member stands.
-fn find(rows: &[Row], code: u64) -> Option<usize>
+fn place(rows: &[Row], code: u64) -> Option<usize>
     ensures place { result ≡ place rows.now code }
-    ensures bound { IfSome result (λ i. i < length rows.now) }
+    ensures stands { IfSome result (Stands rows.now code) }
 {
-    for (i, row) in rows.iter().enumerate() {
-        if row.code as u64 == code {
-            return Some(i);
-        }
-    }
-    None
+    rows.iter().position(|row| row.code as u64 == code)
 }
 
 // What all members have in the fund.
@@ -41,54 +29,67 @@ fn sum(rows: &[Row]) -> u64
     requires { shares rows.now ≤ 4000000000 }
     ensures { result ≡ shares rows.now }
 {
-    let mut sum = 0;
-    for row in rows {
-        sum += row.base + row.reserve;
+    rows.iter().map(|row| row.base + row.reserve).sum()
+}
+
+// Ends the case in each row.
+fn close(rows: &mut [Row])
+    ensures { rows.new ≡ map case_closed rows.old }
+{
+    for row in rows.iter_mut() {
+        row.standing = row.standing.next(Event::CloseCase).unwrap_or(row.standing);
+        row.charged = 0;
     }
-    sum
 }
 
 impl Table {
-    pub(crate) fn place(&self, code: u64) -> Option<usize>
-        ensures place { result ≡ place self.now.rows.items code }
-        ensures bound { IfSome result (λ i. i < vec_len self.now.rows) }
+    // The place of the member's row, and the row.
+    pub(crate) fn find(&self, code: u64) -> Option<(usize, Row)>
+        ensures { MatchOption result (place self.now.rows.items code ≡ None) (λ p. Stands self.now.rows.items code p.0 × (p.1 ≡ row_of self.now.rows.items code)) }
     {
-        find(self.rows.as_slice(), code)
+        let i = place(self.rows.as_slice(), code)?;
+        Some((i, self.rows[i]))
     }
 
+    // What all members have in the fund.
     pub(crate) fn shares(&self) -> u64
-        requires { shares self.now.rows.items ≤ 4000000000 }
         ensures { result ≡ shares self.now.rows.items }
     {
         sum(self.rows.as_slice())
     }
 
-    // The row at the place, if there is one.
-    pub(crate) fn row(&self, place: Option<usize>) -> Row
-        requires { IfSome place (λ i. i < vec_len self.now.rows) }
-        ensures { result ≡ row_at self.now.rows.items place }
+    // Puts the row after the others.
+    pub(crate) fn push(&mut self, row: Row)
+        requires few { vec_len self.old.rows < 64 }
+        requires limit { shares self.old.rows.items + share row ≤ 4000000000 }
+        requires charged { charges self.old.rows.items + row.charged ≤ 4000000000 }
+        ensures { self.new.rows.items ≡ self.old.rows.items ++ row ∷ [] }
     {
-        match place {
-            Some(i) => self.rows[i],
-            None => NOBODY,
-        }
+        self.rows.push_reserved(row);
     }
 
-    // What the member at the place has in the fund.
-    pub(crate) fn share(&self, i: usize) -> u64
-        requires { (i < vec_len self.now.rows) × (shares self.now.rows.items ≤ 4000000000) }
-        ensures { result ≡ share (row_at self.now.rows.items (Some i)) }
+    // Puts the row in the place of the one that stands there.
+    pub(crate) fn set(&mut self, i: usize, row: Row)
+        requires inside { i < vec_len self.old.rows }
+        requires limit { shares (slice_set self.old.rows.items i row) ≤ 4000000000 }
+        requires charged { charges (slice_set self.old.rows.items i row) ≤ 4000000000 }
+        ensures { self.new.rows.items ≡ slice_set self.old.rows.items i row }
     {
-        let row = self.row(Some(i));
-        row.base + row.reserve
+        self.rows[i] = row;
     }
 
-    // Lends one row to be changed.
-    pub(crate) fn row_mut(&mut self, i: usize) -> &mut Row
+    // Takes the row out.
+    pub(crate) fn remove(&mut self, i: usize)
         requires { i < vec_len self.old.rows }
-        ensures* follows { sem 𝓛 (follows of-table of_row self.entry.ghost_name result.ghost_name (λ w. record { rows = with_item self.old.rows i w })) }
-        ensures value { result.now ≡ slice_index_or self.old.rows.items i result.now }
+        ensures { self.new.rows.items ≡ remove self.old.rows.items i }
     {
-        &mut self.rows[i]
+        self.rows.remove(i);
+    }
+
+    // Ends the case in all rows.
+    pub(crate) fn close(&mut self)
+        ensures { self.new.rows.items ≡ map case_closed self.old.rows.items }
+    {
+        close(&mut self.rows);
     }
 }

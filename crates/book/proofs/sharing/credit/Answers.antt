@@ -1,8 +1,8 @@
-use Rattle.std.proofs.Common.{sym, refl, ap, ◌∙◌, arith}
+use Rattle.std.proofs.Common.{refl, ap, ◌∙◌, arith}
 use Rattle.std.proofs.lemmas.List.{take_all}
 use Rattle.std.proofs.lemmas.List.Sums.{get_or-le-sum_by}
-use Rattle.book.specs.Rows.{share, nobody, by_parts}
-use Rattle.book.proofs.Parts.{as_it_was, one_part_more, credit, credited_by_parts}
+use Rattle.book.specs.Rows.{share, nobody, credit, credited}
+use Rattle.book.proofs.Parts.{as_it_was, one_part_more}
 use Rattle.book.proofs.sharing.credit.Goals as goal
 
 pub overflow_add-rows : goal.overflow_add-rows
@@ -14,4 +14,4 @@ pub loop-i-preserved : goal.loop-i-preserved
 loop-i-preserved c = one_part_more credit c.args.rows.now c.loop-i.rows c.args.parts.now c.loop-i.i c.loop-i.invariant nobody _ (omega (arith, c.requires.long)) c.loop-i-test.true refl
 
 pub returns : goal.returns
-returns c = c.loop-i.invariant ∙ ap (by_parts credit c.args.rows.now) (take_all c.loop-i.i c.args.parts.now c.loop-i-test.false) ∙ sym (credited_by_parts c.args.rows.now c.args.parts.now)
+returns c = c.loop-i.invariant ∙ ap (credited c.args.rows.now) (take_all c.loop-i.i c.args.parts.now c.loop-i-test.false)

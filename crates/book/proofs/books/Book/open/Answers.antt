@@ -12,13 +12,8 @@ none g c = nil_from_length (vec_items c.args.list) (sym c.args.list.ok.0 ∙ c.r
 pub invariant_of-result : goal.invariant_of-result
 invariant_of-result g c =
     let limit : shares (vec_items c.args.list) ≤ 4000000000 = rw (none g c) (omega arith) in
-    record {
-      few = omega arith;
-      room = c.requires.room;
-      limit = limit;
-      tally = ap charges (none g c);
-      bound = omega arith;
-    }
+    let charged : charges (vec_items c.args.list) ≤ 4000000000 = rw (none g c) (omega arith) in
+    record { few = omega arith; room = c.requires.room; limit = limit; charged = charged }
 
 pub returns : goal.returns
 returns g c =

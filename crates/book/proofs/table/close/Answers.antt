@@ -2,7 +2,7 @@ use Rattle.std.proofs.Common.{rules}
 use Rattle.std.proofs.lemmas.List.{take_all, drop_all}
 use Rattle.std.proofs.lemmas.List.Edits.{map_over_more}
 use Rattle.book.specs.Rows.{case_closed}
-use Rattle.book.proofs.cases.close_rows.Goals as goal
+use Rattle.book.proofs.table.close.Goals as goal
 
 pub loop-row-preserved : goal.loop-row-preserved
 loop-row-preserved c = search (rules, map_over_more case_closed)
