@@ -13,6 +13,10 @@ use Rattle.book.specs.Rows.{place, row_at, row_of, found, Stands, nobody, change
 pub row_there : (rows : List Row) (code i : ℕ) (d : Row) → Stands rows code i → get_or rows i d ≡ row_of rows code
 row_there rows code i d at = get_or_default rows i d nobody at.inside ∙ sym (ap (row_at rows) at.here)
 
+-- the row that is lent at a member's place is the member's
+pub lent : (rows : List Row) (code i : ℕ) (r : Row) → Stands rows code i → r ≡ get_or rows i r → r ≡ row_of rows code
+lent rows code i r at e = e ∙ row_there rows code i r at
+
 -- a row that was found is the member's
 pub row_is : (cs : List Check) (rows : List Row) (code i : ℕ) (r : Row) → Ok (i, r) ≡ checked cs (found rows code) → r ≡ row_of rows code
 row_is cs rows code i r e = ap (λ (p : ℕ × Row). p.1) (checked_made cs (found rows code) (i, r) (tt {0}) e).0

@@ -3,8 +3,7 @@ ghost use Rattle.std.specs.Prelude.{◌≡◌, ◌+◌, ◌<◌, [], ◌∷◌, 
 ghost use Rattle.std.specs.Option.{unwrap_or};
 ghost use Rattle.division.specs.Refusals.{answer, after, checked};
 ghost use Rattle.book.specs.Refusals.{refusal};
-ghost use Rattle.book.specs.Rows.{place, row_of, standing_after, Stands};
-ghost use Rattle.book.specs.declared.standings.Event.TheVariants.{OpenCase as Opens};
+ghost use Rattle.book.specs.Rows.{place, Stands};
 ghost use Rattle.book.specs.States.{open_checks, case_opened, other_case, closed};
 ghost use Rattle.book.specs.Books.{view};
 ghost use Rattle.book.specs.Calls.{Close, Number, entered};
@@ -13,7 +12,7 @@ ghost use Rattle.book.specs.Laws.{GoesOn};
 
 use crate::books::Book;
 use crate::faults::Fault;
-use crate::rows::{OpenCase, Row};
+use crate::rows::OpenCase;
 use crate::standings::Event;
 use houses::House;
 
@@ -26,21 +25,22 @@ pub struct Case {
 }
 
 impl<C: House> Book<C> {
-    // The place of a member against whom a case can be opened, and its row with the case open.
-    fn opens(&self, code: u64) -> Result<(usize, Row), Fault>
-        ensures answer { answer refusal result ≡ checked (open_checks (view C.balances self.now) code) (unwrap_or (place self.now.table.rows.items code) 0, standing_after Opens (row_of self.now.table.rows.items code)) }
-        ensures stands { IfOk result (λ p. Stands self.now.table.rows.items code p.0) }
+    // The place of a member against whom a case can be opened.
+    fn opens(&self, code: u64) -> Result<usize, Fault>
+        ensures answer { answer refusal result ≡ checked (open_checks (view C.balances self.now) code) (unwrap_or (place self.now.table.rows.items code) 0) }
+        ensures stands { IfOk result (Stands self.now.table.rows.items code) }
         ensures room { OnOk result (self.now.opened < 65535) }
     {
         let (i, row) = self.member(code)?;
         if self.case.is_some() {
             return Err(Fault::CaseOpen);
         }
-        let standing = row.standing.next(Event::OpenCase).ok_or(Fault::NotActive)?;
+        let mut standing = row.standing;
+        standing.turn(Event::OpenCase)?;
         if self.opened >= CASES {
             return Err(Fault::NoNumber);
         }
-        Ok((i, Row { standing, ..row }))
+        Ok(i)
     }
 
     // The member becomes defaulting, and the case gets the next number.
@@ -50,9 +50,9 @@ impl<C: House> Book<C> {
         ensures ready { C.ready self.new.house ≡ C.ready self.old.house }
         ensures history { GoesOn (call.OpenCase code) (entered (λ c. Number c.number) (answer refusal result)) (C.ready self.old.house) (view C.balances self.old) (C.ready self.new.house) (view C.balances self.new) }
     {
-        let (i, row) = self.opens(code)?;
+        let i = self.opens(code)?;
         let number = self.opened + 1;
-        self.table.set(i, row);
+        self.table.rows[i].standing.turn(Event::OpenCase).unwrap();
         self.case = Some(OpenCase {
             number,
             charged: 0,

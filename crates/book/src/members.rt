@@ -64,8 +64,8 @@ impl<C: House> Book<C> {
         check_code(code)?;
         let last = self.table.find(code).map_or(0, |(_, row)| row.required);
         let required = contribution(securities, trades, last)?.required;
-        let (i, row) = self.allowed(code, Event::Update)?;
-        self.table.set(i, Row { required, ..row });
+        let (i, _) = self.allowed(code, Event::Update)?;
+        self.table.rows[i].required = required;
         Ok(required)
     }
 
@@ -75,7 +75,8 @@ impl<C: House> Book<C> {
         ensures stands { IfOk result (λ p. Stands self.now.table.rows.items code p.0) }
     {
         let (i, row) = self.table.find(code).ok_or(Fault::NoRow)?;
-        row.standing.next(event).ok_or(Fault::NotActive)?;
+        let mut standing = row.standing;
+        standing.turn(event)?;
         Ok((i, row))
     }
 
@@ -105,8 +106,7 @@ impl<C: House> Book<C> {
         let paid_in = row.required.saturating_sub(row.base);
         let paid_out = row.base.saturating_sub(row.required);
         settle(&mut self.house, code, paid_in, paid_out)?;
-        let base = row.required;
-        self.table.set(i, Row { base, ..row });
+        self.table.rows[i].base = row.required;
         Ok((paid_in, paid_out))
     }
 

@@ -1,7 +1,10 @@
 // What a member's standing allows, and what becomes of it.
-ghost use Rattle.std.specs.Prelude.{◌≡◌};
+ghost use Rattle.std.specs.Prelude.{◌≡◌, is_ok, is_some, IfErr};
+ghost use Rattle.std.specs.Option.{unwrap_or};
+ghost use Rattle.book.specs.declared.faults.Fault.TheVariants.{NotActive};
 ghost use Rattle.book.specs.Standings.{next};
 
+use crate::faults::Fault;
 use crate::rows::Standing;
 
 // The calls that ask for a standing.
@@ -14,20 +17,22 @@ pub(crate) enum Event {
 }
 
 impl Standing {
-    // The standing after the call, if it allows the call.
-    pub(crate) fn next(self, event: Event) -> Option<Standing>
-        ensures { result ≡ next self event }
+    // Changes the standing as the call asks, or refuses and leaves it as it was.
+    pub(crate) fn turn(&mut self, event: Event) -> Result<(), Fault>
+        ensures allowed { is_ok result ≡ is_some (next self.old event) }
+        ensures refused { IfErr result (λ fault. fault ≡ NotActive) }
+        ensures left { self.new ≡ unwrap_or (next self.old event) self.old }
     {
-        match (self, event) {
-            (Standing::Active, Event::OpenCase) => Some(Standing::Defaulting),
-            (Standing::Active, Event::Update | Event::Regulate | Event::CloseCase) => {
-                Some(Standing::Active)
-            }
-            (Standing::Defaulting | Standing::Barred, Event::CloseCase) => Some(Standing::Barred),
+        match (*self, event) {
+            (Standing::Active, Event::Update | Event::Regulate | Event::CloseCase)
+            | (Standing::Barred, Event::CloseCase) => {}
+            (Standing::Active, Event::OpenCase) => *self = Standing::Defaulting,
+            (Standing::Defaulting, Event::CloseCase) => *self = Standing::Barred,
             (
                 Standing::Defaulting | Standing::Barred,
                 Event::Update | Event::Regulate | Event::OpenCase,
-            ) => None,
+            ) => return Err(Fault::NotActive),
         }
+        Ok(())
     }
 }

@@ -37,7 +37,7 @@ fn close(rows: &mut [Row])
     ensures { rows.new ≡ map case_closed rows.old }
 {
     for row in rows.iter_mut() {
-        row.standing = row.standing.next(Event::CloseCase).unwrap_or(row.standing);
+        row.standing.turn(Event::CloseCase).unwrap();
         row.charged = 0;
     }
 }
@@ -66,16 +66,6 @@ impl Table {
         ensures { self.new.rows.items ≡ self.old.rows.items ++ row ∷ [] }
     {
         self.rows.push_reserved(row);
-    }
-
-    // Puts the row in the place of the one that stands there.
-    pub(crate) fn set(&mut self, i: usize, row: Row)
-        requires inside { i < vec_len self.old.rows }
-        requires limit { shares (slice_set self.old.rows.items i row) ≤ 4000000000 }
-        requires charged { charges (slice_set self.old.rows.items i row) ≤ 4000000000 }
-        ensures { self.new.rows.items ≡ slice_set self.old.rows.items i row }
-    {
-        self.rows[i] = row;
     }
 
     // Takes the row out.

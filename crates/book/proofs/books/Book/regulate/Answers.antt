@@ -2,17 +2,18 @@ use Rattle.std.proofs.Common.{◌≡◌, ℕ, ◌+◌, ◌-◌, Ok, set, vec_ite
 use Rattle.std.proofs.lemmas.Bool.Decides.{nat_tests}
 use Rattle.division.specs.Refusals.{clear}
 use Rattle.division.proofs.Checks.{first_refuses, second_refuses, both_pass}
+use Rattle.book.specs.declared.rows.Row.{Row}
 use Rattle.book.specs.Refusals.{refusal}
 use Rattle.book.specs.Rows.{shares, charges, row_of, found, based_as_required}
 use Rattle.book.specs.States.{missing, excess, regulation, settle_checks, settled, with_rows}
 use Rattle.book.specs.Calls.{Regulate, Paid}
 use Rattle.book.specs.Books.{view}
 use Rattle.book.proofs.Histories.{told, stops, accepted_goes_on}
-use Rattle.book.proofs.Places.{row_is, replaced}
+use Rattle.book.proofs.Places.{lent, row_is, replaced}
 use Rattle.book.proofs.Shares.{same_sum, when_regulated}
 use Rattle.book.proofs.books.Book.regulate.Given as given
 use Rattle.book.proofs.books.Book.regulate.Goals as goal
-use Rattle.book.proofs.books.Book.regulate.Goals.{After-settle}
+use Rattle.book.proofs.books.Book.regulate.Goals.{After-settle, After-index_mut}
 
 pub returns-in_err-i : goal.returns-in_err-i
 returns-in_err-i g c =
@@ -22,6 +23,9 @@ returns-in_err-i g c =
     let answer = first_refuses (regulation s c.args.code) (settle_checks rd s.balances c.args.code amounts.0 amounts.1) (found s.rows c.args.code) amounts _ c.in_err-i.ensures.answer in
     let back = c.from_residual.ensures.1 in
     record { answer = told refusal _ back answer; state = search rules; ready = search rules; unpaid = search rules; history = stops refusal _ back (Regulate c.args.code) amounts (λ p. Paid p.0 p.1) answer refl refl }
+
+abbrev based_on : ℕ → Row → Row
+based_on n r = record { code = r.code; standing = r.standing; base = n; reserve = r.reserve; required = r.required; charged = r.charged }
 
 -- the row that is regulated
 mine : (g : given.Over) (c : After-settle g) → c.in_ok-i.row ≡ row_of (vec_items c.args.self.now.table.rows) c.args.code
@@ -47,20 +51,23 @@ returns-in_err-settle g c =
     let ready = c.in_err-settle.ensures.ready in
     record { answer = told refusal _ back answer; state = search rules; ready = search rules; unpaid = λ _. ready; history = stops refusal _ back (Regulate c.args.code) amounts (λ p. Paid p.0 p.1) answer state ready }
 
-pub set-requires : goal.set-requires
-set-requires g c =
-    let s = view g.C.House.balances c.args.self.now in
-    let m = mine g (goal.at.set-requires g c).After-settle in
-    let stands = c.in_ok-i.ensures.stands in
-    let e = ap (λ r. shares (set s.rows c.in_ok-i.i (based_as_required r))) m in
-    let t = same_sum (λ r. r.charged) s.rows c.args.code c.in_ok-i.i (based_as_required c.in_ok-i.row) stands (ap (λ r. r.charged) m) in
-    record { inside = omega (arith, stands.inside, c.args.self.now.table.rows.ok.0); limit = omega (arith, e, when_regulated s c.args.code c.in_ok-i.i (found s.rows c.args.code) _ c.in_ok-i.ensures.answer stands); charged = omega (arith, t, c.args.self.now.table.charged) }
+-- the row as it was lent, and what is written there
+lent_row : (g : given.Over) (c : After-index_mut g) → c.index_mut.result.now ≡ row_of (vec_items c.args.self.now.table.rows) c.args.code
+lent_row g c = lent (vec_items c.args.self.now.table.rows) c.args.code c.in_ok-i.i c.index_mut.result.now c.in_ok-i.ensures.stands c.index_mut.ensures.value
+
+written : (g : given.Over) (c : After-index_mut g) → based_on c.in_ok-i.row.required c.index_mut.result.now ≡ based_as_required (row_of (vec_items c.args.self.now.table.rows) c.args.code)
+written g c = ap (λ r. based_on r.required c.index_mut.result.now) (mine g (goal.at.After-index_mut g c).After-settle) ∙ ap (based_on (row_of (vec_items c.args.self.now.table.rows) c.args.code).required) (lent_row g c)
 
 pub invariant_of-self-2 : goal.invariant_of-self-2
 invariant_of-self-2 g c =
     let s = view g.C.House.balances c.args.self.now in
-    let m = mine g (goal.at.invariant_of-self-2 g c).After-settle in
-    record { tally = ap charges c.set.ensures ∙ same_sum (λ r. r.charged) s.rows c.args.code c.in_ok-i.i (based_as_required c.in_ok-i.row) c.in_ok-i.ensures.stands (ap (λ r. r.charged) m) ∙ c.args.self.now.tally }
+    let a = (goal.at.invariant_of-self-2 g c).After-index_mut in
+    let stands = c.in_ok-i.ensures.stands in
+    let w = based_on c.in_ok-i.row.required c.index_mut.result.now in
+    let e = ap (λ r. shares (set s.rows c.in_ok-i.i r)) (written g a) in
+    let t = same_sum (λ r. r.charged) s.rows c.args.code c.in_ok-i.i w stands (ap (λ r. r.charged) (lent_row g a)) in
+    let limit = when_regulated s c.args.code c.in_ok-i.i (found s.rows c.args.code) _ c.in_ok-i.ensures.answer stands in
+    ((omega arith, (omega arith, (omega (arith, e, limit), (omega (arith, t, c.args.self.now.table.charged), tt)))), (t ∙ c.args.self.now.tally, tt))
 
 pub returns : goal.returns
 returns g c =
@@ -76,7 +83,7 @@ returns g c =
     ∙ ap (λ n. clear (settle_checks rd s.balances c.args.code (missing s c.args.code) n)) o) in
     let balances = c.in_ok-settle.ensures.balances ∙ ap (λ n. settled s.balances c.args.code n c.saturating_sub-paid_out.result) i ∙ ap (settled s.balances c.args.code (missing s c.args.code)) o in
     let state = ap (with_rows s _) balances ∙ ap (λ l. with_rows s l (settled s.balances c.args.code (missing s c.args.code) (excess s c.args.code)))
-    (c.set.ensures ∙ replaced based_as_required c.args.code s.rows c.in_ok-i.i _ c.in_ok-i.ensures.stands (ap based_as_required (mine g a))) in
+    (replaced based_as_required c.args.code s.rows c.in_ok-i.i _ c.in_ok-i.ensures.stands (written g (goal.at.returns g c).After-index_mut)) in
     let unpaid = λ (z : missing s c.args.code + excess s c.args.code ≡ 0). c.in_ok-settle.ensures.unpaid (omega (arith, i, o, z)) in
     record {
       answer = answer;

@@ -8,7 +8,7 @@ use Rattle.book.specs.States.{with_rows, updated_to, bad_code, no_row, forbidden
 use Rattle.book.specs.Calls.{Update, Amount}
 use Rattle.book.specs.Books.{view}
 use Rattle.book.proofs.Histories.{told, stops, accepted_goes_on}
-use Rattle.book.proofs.Places.{row_is, required_of, replaced}
+use Rattle.book.proofs.Places.{lent, required_of, replaced}
 use Rattle.book.proofs.Updates.{by_code, by_contribution, by_standing, accepted, required_is}
 use Rattle.book.proofs.books.Book.update.Given as given
 use Rattle.book.proofs.books.Book.update.Goals as goal
@@ -52,8 +52,8 @@ returns g c =
     let ts = c.args.trades.now in
     let v = updated_to s c.args.code ss ts in
     let n = required_is s c.args.code ss ts c.map_or-last.result c.in_ok-required.field-0 (last g a) c.in_ok-required.ensures.verdict in
-    let row = row_is (no_row s c.args.code ∷ forbidden event.Update s c.args.code ∷ []) s.rows c.args.code c.in_ok-i.i c.in_ok-i.row c.in_ok-i.ensures.answer in
+    let row = c.index_mut.result.now in
     let answer = ap Ok n ∙ accepted s c.args.code ss ts c.map_or-last.result v (ok g a) c.in_ok-required.field-0 c.in_ok-required.ensures.verdict (found s.rows c.args.code) _ c.in_ok-i.ensures.answer in
-    let written = ap (λ m. required_as m c.in_ok-i.row) n ∙ ap (required_as v) row in
-    let state = ap (λ l. with_rows s l s.balances) (c.set.ensures ∙ replaced (required_as v) c.args.code s.rows c.in_ok-i.i _ c.in_ok-i.ensures.stands written) in
+    let written = ap (λ m. required_as m row) n ∙ ap (required_as v) (lent s.rows c.args.code c.in_ok-i.i row c.in_ok-i.ensures.stands c.index_mut.ensures.value) in
+    let state = ap (λ l. with_rows s l s.balances) (replaced (required_as v) c.args.code s.rows c.in_ok-i.i _ c.in_ok-i.ensures.stands written) in
     record { answer = answer; state = state; ready = refl; history = accepted_goes_on (Update c.args.code ss ts) v rd rd s _ Amount _ answer refl state (λ _. refl) }
