@@ -16,11 +16,11 @@ use Rattle.book.specs.Rows.{row_of}
 use Rattle.book.specs.States.{State, bad_code, no_row, forbidden, update_checks, updated_to}
 
 pub by_code : (s : State) (code : ℕ) (ss : List Security) (ts : List Trade) (v : ℕ) (r : Refusal) → Err r ≡ clear (bad_code code ∷ []) → Err r ≡ checked (update_checks s code ss ts) v
-by_code s code ss ts v r e = first_refuses (bad_code code ∷ []) (contribution.checks 64 128 ss ts ++ (no_row s code ∷ forbidden Update s code ∷ [])) (tt {0}) v r e
+by_code s code ss ts v r e = first_refuses (bad_code code ∷ []) (contribution.all_checks ss ts ++ (no_row s code ∷ forbidden Update s code ∷ [])) (tt {0}) v r e
 
 module _ (s : State) (code : ℕ) (ss : List Security) (ts : List Trade) (m v : ℕ) (ok : not (within 10 9999 code) ≡ false) where
   cs : List Check
-  cs = contribution.checks 64 128 ss ts
+  cs = contribution.all_checks ss ts
 
   ds : List Check
   ds = no_row s code ∷ forbidden Update s code ∷ []
@@ -44,4 +44,4 @@ module _ (s : State) (code : ℕ) (ss : List Security) (ts : List Trade) (m v : 
 
 pub required_is : (s : State) (code : ℕ) (ss : List Security) (ts : List Trade) (m : ℕ) (a : Assessment) → m ≡ (row_of s.rows code).required → Ok a ≡ contribution.verdict ss ts m → a.required ≡ updated_to s code ss ts
 required_is s code ss ts m a here e =
-    ap (λ x. x.required) (checked_made (contribution.checks 64 128 ss ts) (contribution.assessment ss ts m) a (tt {0}) e).0 ∙ ap (renewed (calculated ss ts)) here
+    ap (λ x. x.required) (checked_made (contribution.all_checks ss ts) (contribution.assessment ss ts m) a (tt {0}) e).0 ∙ ap (renewed (calculated ss ts)) here

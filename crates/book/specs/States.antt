@@ -87,7 +87,7 @@ forbidden event s code = (not (is_some (next (row_of s.rows code).standing event
 
 -- the contribution is judged before the member is looked for
 abbrev pub update_checks : State → ℕ → List Security → List Trade → List Check
-update_checks s code ss ts = bad_code code ∷ (contribution.checks 64 128 ss ts ++ (no_row s code ∷ forbidden Update s code ∷ []))
+update_checks s code ss ts = bad_code code ∷ (contribution.all_checks ss ts ++ (no_row s code ∷ forbidden Update s code ∷ []))
 
 -- what the member is required to contribute from now on
 abbrev pub updated_to : State → ℕ → List Security → List Trade → ℕ
