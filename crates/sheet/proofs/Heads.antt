@@ -1,36 +1,52 @@
 -- The head of a sheet, line by line.
-use Rattle.std.proofs.Common.{◌≡◌, ℕ, ◌+◌, ◌<◌, ◌≤◌, true, false, cond, ltb, leb, List, [], ◌∷◌, ◌++◌, length, drop, sym, ap, ◌∙◌, arith}
-use Rattle.std.proofs.lemmas.Bool.{cond-true, cond-false}
-use Rattle.std.proofs.lemmas.Bool.Decides.{nat_tests}
+use Rattle.std.proofs.Common.{◌≡◌, ℕ, ◌+◌, ◌<◌, true, false, cond, Bool, leb, List, [], ◌∷◌, ◌++◌, length, Some, None, Ok, Err, Result, sym, refl, ap, ◌∙◌}
+use Rattle.std.proofs.lemmas.Bool.{cond-false}
 use Rattle.houses.specs.declared.openings.Opening.{Opening}
+use Rattle.sheet.specs.declared.faults.Fault.{Fault}
 use Rattle.sheet.specs.declared.faults.Fault.TheVariants.{TooMany}
-use Rattle.sheet.specs.declared.heading.HeadLine.TheVariants as line
 use Rattle.sheet.specs.Lines.{Item, Account, Listed, Traded, Asked, BadAccount, Bad, first, rest, items}
-use Rattle.sheet.specs.Days.{stopped, no_book, head, marked, run}
+use Rattle.sheet.specs.Days.{stopped, no_book, opening, head}
 use Rattle.sheet.specs.Desks.{in_head}
 use Rattle.sheet.proofs.Items.{items_step}
 
--- a line that was found to be an account
-is_account : (i : Item) (a : Opening) → line.Account a ≡ in_head i → i ≡ Account a
-is_account (Account b) a e = let same : a ≡ b = cc in ap Account (sym same)
-is_account (Listed s) a e = let z : ◌≡◌ {A = ℕ} 0 1 = cc in absurd (omega arith)
-is_account (Traded code t) a e = let z : ◌≡◌ {A = ℕ} 0 1 = cc in absurd (omega arith)
-is_account (Asked q) a e = let z : ◌≡◌ {A = ℕ} 0 1 = cc in absurd (omega arith)
-is_account BadAccount a e = let z : ◌≡◌ {A = ℕ} 0 1 = cc in absurd (omega arith)
-is_account Bad a e = let z : ◌≡◌ {A = ℕ} 0 1 = cc in absurd (omega arith)
+module _ (is : List Item) (n : ℕ) (os : List Opening) where
+  -- a line that was found to be an account
+  pub head_account : (i : Item) (a : Opening) → Ok (Some a) ≡ in_head i → head (i ∷ is) n os ≡ head (Account a ∷ is) n os
+  head_account (Account b) a e = let same : a ≡ b = cc in ap (λ x. head (Account x ∷ is) n os) (sym same)
+  head_account (Listed s) a e = cc
+  head_account (Traded code t) a e = cc
+  head_account (Asked q) a e = cc
+  head_account BadAccount a e = cc
+  head_account Bad a e = cc
 
-module _ (s t : List ℕ) (n : ℕ) (os : List Opening) (i : Item) (some : 0 < length s) (said : i ≡ first s) (left : t ≡ rest s) where
-  step : head (items s) n os ≡ head (i ∷ items t) n os
-  step = ap (λ l. head l n os) (items_step s some) ∙ ap (λ l. head (first s ∷ items l) n os) (sym left) ∙ ap (λ x. head (x ∷ items t) n os) (sym said)
+  -- one that ends the head
+  pub head_behind : (i : Item) → Ok None ≡ in_head i → head (i ∷ is) n os ≡ opening n os (i ∷ is)
+  head_behind (Account b) e = cc
+  head_behind (Listed s) e = refl
+  head_behind (Traded code t) e = refl
+  head_behind (Asked q) e = refl
+  head_behind BadAccount e = cc
+  head_behind Bad e = refl
 
-  module _ (a : Opening) (is : line.Account a ≡ in_head i) where
-    counted : head (items s) n os ≡ cond (leb 128 (length os)) (stopped n TooMany ++ no_book) (head (items t) (n + 1) (os ++ a ∷ []))
-    counted = step ∙ ap (λ x. head (x ∷ items t) n os) (is_account i a is)
+  -- one that stops the run
+  pub head_stop : (i : Item) (fault : Fault) → Err fault ≡ in_head i → head (i ∷ is) n os ≡ stopped n fault ++ no_book
+  head_stop (Account b) fault e = cc
+  head_stop (Listed s) fault e = cc
+  head_stop (Traded code t) fault e = cc
+  head_stop (Asked q) fault e = cc
+  head_stop BadAccount fault e = cc
+  head_stop Bad fault e = cc
 
-    -- an account more
-    pub head_account : length os < 128 → head (items t) (n + 1) (os ++ a ∷ []) ≡ head (items s) n os
-    head_account room = let few : leb 128 (length os) ≡ false = grind (arith, nat_tests) in sym (counted ∙ cond-false _ _ _ few)
-
--- a sheet that is not too long and has the mark
-pub run_headed : (s : List ℕ) → length s ≤ 65536 → marked s ≡ true → run s ≡ head (items (drop 6 s)) 2 []
-run_headed s short is = let few : ltb 65536 (length s) ≡ false = grind (arith, nat_tests) in cond-false _ _ _ few ∙ cond-true _ _ _ is
+-- one account more, behind those that are in the list already
+pub head_more : (s t : List ℕ) (n : ℕ) (os more : List Opening) (i : Item) (a : Opening) → 0 < length s → i ≡ first s → t ≡ rest s → Ok (Some a) ≡ in_head i →
+    ◌≡◌ {A = Result (Unit {0}) Fault} (Ok tt) (cond (leb 128 (length os)) (Err TooMany) (Ok tt)) → more ≡ cond (leb 128 (length os)) os (os ++ a ∷ []) →
+    head (items t) (n + 1) more ≡ head (items s) n os
+head_more s t n os more i a some said left is room all =
+    by (leb 128 (length os)) refl room
+  where
+    by : (b : Bool) → leb 128 (length os) ≡ b → ◌≡◌ {A = Result (Unit {0}) Fault} (Ok tt) (cond b (Err TooMany) (Ok tt)) → head (items t) (n + 1) more ≡ head (items s) n os
+    by true e h = cc
+    by false e h =
+        let step : head (items s) n os ≡ head (i ∷ items t) n os = ap (λ l. head l n os) (items_step s some) ∙ ap (λ l. head (first s ∷ items l) n os) (sym left) ∙ ap (λ x. head (x ∷ items t) n os) (sym said) in
+        let new : more ≡ os ++ a ∷ [] = all ∙ cond-false _ _ _ e in
+        ap (head (items t) (n + 1)) new ∙ sym (step ∙ head_account (items t) n os i a is ∙ cond-false _ _ _ e)

@@ -1,9 +1,6 @@
 pub mod Digits
 pub mod Items
-pub mod OwnTrades
 pub mod Asked
 pub mod Printed
-pub mod Pending
-pub mod Sizes
 pub mod Heads
 pub mod Filed

@@ -1,5 +1,5 @@
 -- What running a sheet prints.
-use Rattle.std.specs.Prelude.{ℕ, ◌+◌, Bool, true, cond, List, [], ◌∷◌, ◌++◌, length, take, drop, Some, None, Ok, Err, codes, decimal, Option, Result, ◌==◌, nat_le, nat_lt}
+use Rattle.std.specs.Prelude.{ℕ, ◌+◌, Bool, true, cond, List, [], ◌∷◌, ◌++◌, length, take, drop, Some, None, Ok, Err, codes, decimal, Option, Result, ◌==◌, nat_le, nat_lt, map, filter}
 use Rattle.std.proofs.Math.Utf8.{encode}
 use Rattle.std.specs.Str.{bytes_eq}
 use Rattle.division.specs.declared.refusals.Refusal.{Refusal}
@@ -33,8 +33,7 @@ pub record Day : Type 0 where
 
 -- the trades of one member, in their order
 abbrev pub trades_of : List MemberTrade → ℕ → List Trade
-trades_of [] code = []
-trades_of (t ∷ ts) code = cond (t.code == code) (t.trade ∷ trades_of ts code) (trades_of ts code)
+trades_of ts code = map (λ (t : MemberTrade). t.trade) (filter (λ t. t.code == code) ts)
 
 -- a call about the open case, if there is one
 abbrev pub in_case : Option Open → (ℕ → Call) → Option Call

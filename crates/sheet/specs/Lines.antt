@@ -107,15 +107,6 @@ said (Ok l) = told l
 said (Err bad.Account) = BadAccount
 said (Err bad.Other) = Bad
 
--- an ISIN that is kept has 12 bytes
-abbrev pub Sized : Item → Type 0
-Sized (Account a) = Unit {0}
-Sized (Listed s) = length s.isin.bytes ≡ 12
-Sized (Traded code t) = length t.isin.bytes ≡ 12
-Sized (Asked q) = Unit {0}
-Sized BadAccount = Unit {0}
-Sized Bad = Unit {0}
-
 -- one line read: what it says, and the bytes that are left
 abbrev pub Stepped : List ℕ → Option (Result Line BadLine) → List ℕ → Type 0
 Stepped s None t = (length s ≡ 0) × (t ≡ s)

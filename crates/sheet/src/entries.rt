@@ -1,12 +1,24 @@
 // The lines of the output.
+use crate::lines::Request;
 use book::Answer;
 use division::Refusal;
+use std::alloc::AllocError;
+
+// What a line of the output is about.
+#[derive(Clone, Copy)]
+pub(crate) enum Subject {
+    // the sheet itself, where the run stops
+    Sheet,
+    // the house and the book that could not be opened
+    Opening,
+    Call(Request),
+}
 
 // What came of a line of the sheet.
 #[derive(Clone, Copy)]
 pub(crate) struct Entry {
-    pub(crate) line: u64,
-    pub(crate) letter: char,
+    pub(crate) line: usize,
+    pub(crate) subject: Subject,
     pub(crate) outcome: Result<Answer, Refusal>,
 }
 
@@ -21,6 +33,5 @@ pub(crate) struct End {
 // What was printed so far, unless memory ran out.
 #[derive(Drop)]
 pub(crate) struct Output {
-    pub(crate) text: String,
-    pub(crate) cut: bool,
+    pub(crate) text: Result<String, AllocError>,
 }

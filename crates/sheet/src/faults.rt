@@ -30,3 +30,10 @@ impl Fault {
         }
     }
 }
+
+// The line at which the run stops, and why.
+#[derive(Clone, Copy)]
+pub(crate) struct Stop {
+    pub(crate) line: usize,
+    pub(crate) fault: Fault,
+}

@@ -82,14 +82,10 @@ impl<'a> Fields<'a> {
         number(self.field()?)
     }
 
-    pub(crate) fn isin(&mut self) -> Option<&'a [u8]>
+    pub(crate) fn isin(&mut self) -> Option<&'a [u8; 12]>
         ensures { paired (option_map (λ x. x.now) result) self.new.rest.now ≡ next isin self.old.rest.now }
     {
-        let bytes = self.field()?;
-        if bytes.len() != 12 {
-            return None;
-        }
-        Some(bytes)
+        self.field()?.try_into().ok()
     }
 
     pub(crate) fn side(&mut self) -> Option<Side>

@@ -2,56 +2,54 @@
 ghost use Rattle.std.specs.Prelude.{◌≡◌};
 ghost use Rattle.houses.specs.Balances.{held};
 ghost use Rattle.sheet.specs.Days.{ended, finish};
-ghost use Rattle.sheet.specs.Desks.{ledger, day_of, held_number, open_number, Written};
+ghost use Rattle.sheet.specs.Desks.{ledger, day_of, Written};
 
+use crate::asking::end;
 use crate::desks::Desk;
-use crate::entries::{End, Entry, Output};
-use book::Case;
+use crate::entries::{End, Entry, Output, Subject};
+use crate::lines::Request;
+use book::{Book, FUND};
 use houses::{House, TableHouse};
 
-// The fund's account.
-const FUND: u64 = 0;
+// What the fund's account holds.
+fn fund(book: &mut Book<TableHouse>) -> u64
+    ensures balance { result ≡ held ((ledger book.old).balances 0) }
+    ensures book { ledger book.new ≡ ledger book.old }
+{
+    book.balance(FUND).unwrap_or(0)
+}
+
+// Prints the last line.
+fn say_end(book: &mut Book<TableHouse>, out: &mut Output)
+    ensures { Written out.old (ended (ledger book.old)) out.new }
+{
+    let fund = fund(book);
+    out.say(&End {
+        shares: book.shares(),
+        fund,
+        rows: book.rows().len(),
+    });
+}
 
 impl Desk {
-    // What the fund's account holds.
-    fn fund(&mut self) -> u64
-        ensures balance { result ≡ held ((ledger self.old.book).balances 0) }
-        ensures book { ledger self.new.book ≡ ledger self.old.book }
-    {
-        match self.book.balance(FUND) {
-            Ok(balance) => balance,
-            Err(_) => 0,
-        }
-    }
-
-    // The last line.
-    fn end(mut self, out: &mut Output)
-        ensures { Written out.old (ended (ledger self.book)) out.new }
-    {
-        let fund = self.fund();
-        out.end(End {
-            shares: self.book.shares(),
-            fund,
-            rows: self.book.rows().len(),
-        });
-    }
-
     // Closes the case that is held, as line n, and ends the day.
-    pub(crate) fn finish(mut self, n: u64, held: Option<Case>, out: &mut Output)
-        requires { held_number held ≡ open_number self.book.case }
+    pub(crate) fn finish(self, n: usize, out: &mut Output)
         ensures { Written out.old (finish n (day_of self)) out.new }
     {
-        match held {
-            None => self.end(out),
-            Some(case) => {
-                let outcome = self.close(Some(case));
-                out.say(Entry {
-                    line: n,
-                    letter: 'C',
-                    outcome,
-                });
-                self.end(out);
-            }
+        let Desk {
+            mut book,
+            held,
+            securities: _securities,
+            trades: _trades,
+            own: _own,
+        } = self;
+        if let Some(case) = held {
+            out.say(&Entry {
+                line: n,
+                subject: Subject::Call(Request::Close),
+                outcome: Ok(end(case, &mut book)),
+            });
         }
+        say_end(&mut book, out);
     }
 }

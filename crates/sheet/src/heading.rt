@@ -1,86 +1,73 @@
 // The head of a sheet: the lines of accounts directly below its first line.
-ghost use Rattle.std.specs.Prelude.{◌≡◌, ◌+◌, ◌≤◌, length, vec_len, vec_capacity};
+ghost use Rattle.std.specs.Prelude.{◌≡◌, [], length};
 ghost use Rattle.sheet.specs.Lines.{items, said};
-ghost use Rattle.sheet.specs.Days.{head};
+ghost use Rattle.sheet.specs.Days.{head, run};
 ghost use Rattle.sheet.specs.Desks.{in_head, Headed};
 
-use crate::faults::Fault;
+use crate::faults::{Fault, Stop};
 use crate::lines::{BadLine, Line};
+use crate::lists::{ACCOUNTS, Limited, Reserved};
+use crate::numbering::Numbered;
 use crate::reader::Lines;
 use houses::Opening;
 
-// The most accounts of a sheet.
-const ACCOUNTS: usize = 128;
-
-// What a line is to the head.
-#[derive(Clone, Copy)]
-pub(crate) enum HeadLine {
-    Account(Opening),
-    Bad,
-    Behind,
-}
-
-// Where the head ends: the line behind it, what is left, and the fault that stops the run.
-#[derive(Clone, Copy)]
+// The accounts of a sheet, and the lines below them.
+#[derive(Drop)]
 pub(crate) struct Head<'a> {
-    pub(crate) line: u64,
-    pub(crate) rest: Lines<'a>,
-    pub(crate) stop: Option<Fault>,
+    pub(crate) accounts: Limited<Opening, ACCOUNTS>,
+    pub(crate) lines: Numbered<'a>,
 }
 
-fn in_head(line: Result<Line<'_>, BadLine>) -> HeadLine
+// The account in the line, unless it is one that ends the head.
+fn in_head(line: Result<Line<'_>, BadLine>) -> Result<Option<Opening>, Fault>
     ensures { result ≡ in_head (said line.entry) }
 {
     match line {
-        Ok(Line::Account(opening)) => HeadLine::Account(opening),
-        Err(BadLine::Account) => HeadLine::Bad,
-        _ => HeadLine::Behind,
+        Ok(Line::Account(opening)) => Ok(Some(opening)),
+        Err(BadLine::Account) => Err(Fault::BadLine),
+        _ => Ok(None),
     }
 }
 
-// Reads the accounts into the list, from the second line on.
-pub(crate) fn read_head<'a>(lines: Lines<'a>, openings: &mut Vec<Opening>) -> Head<'a>
-    requires few { length lines.rest.now ≤ 65536 }
-    requires empty { vec_len openings.old ≡ 0 }
-    requires room { 128 ≤ vec_capacity openings.old }
-    ensures head { Headed (head (items lines.entry.rest.now) 2 openings.old.items) result.stop result.line openings.new.items result.rest.rest.now }
-    ensures few { result.line + length result.rest.rest.now ≤ 65538 }
-    ensures accounts { vec_len openings.new ≤ 128 }
+// Reads the accounts into the list.
+fn read_head<'a>(lines: Numbered<'a>, list: Reserved<Opening, ACCOUNTS>) -> Result<Head<'a>, Stop>
+    ensures { Headed (head (items lines.entry.lines.rest.now) lines.entry.number []) result }
 {
-    let mut n = 2;
-    let mut rest = lines;
-    loop {
-        let mut behind = rest;
-        let Some(line) = behind.next_line() else {
-            return Head {
-                line: n,
-                rest,
-                stop: None,
-            };
+    let mut lines = lines;
+    let mut accounts = Limited::new(list);
+    let mut behind = lines;
+    while let Some((n, line)) = behind.next_line() {
+        let stop = |fault| Stop { line: n, fault };
+        let Some(opening) = in_head(line).map_err(stop)? else {
+            break;
         };
-        match in_head(line) {
-            HeadLine::Behind => return Head {
-                line: n,
-                rest,
-                stop: None,
-            },
-            HeadLine::Bad => return Head {
-                line: n,
-                rest,
-                stop: Some(Fault::BadLine),
-            },
-            HeadLine::Account(opening) => {
-                if openings.len() >= ACCOUNTS {
-                    return Head {
-                        line: n,
-                        rest,
-                        stop: Some(Fault::TooMany),
-                    };
-                }
-                openings.push_reserved(opening);
-            }
-        }
-        n += 1;
-        rest = behind;
+        accounts.push(opening).map_err(stop)?;
+        lines = behind;
     }
+    Ok(Head { accounts, lines })
+}
+
+// The most bytes of a sheet.
+const BYTES: usize = 65_536;
+
+// Looks at the size and the first line, and reads the head below it.
+pub(crate) fn read_sheet<'a>(
+    sheet: &'a [u8],
+    list: Reserved<Opening, ACCOUNTS>,
+) -> Result<Head<'a>, Stop>
+    ensures { Headed (run sheet.now) result }
+{
+    if sheet.len() > BYTES {
+        return Err(Stop {
+            line: 1,
+            fault: Fault::TooMany,
+        });
+    }
+    let Some(rest) = sheet.strip_prefix(b"AFG 1\n") else {
+        return Err(Stop {
+            line: 1,
+            fault: Fault::NoMark,
+        });
+    };
+    read_head(Numbered::new(2, Lines::new(rest)), list)
 }

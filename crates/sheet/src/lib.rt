@@ -1,7 +1,6 @@
 // The day sheet: what its lines say, and what running it prints.
 #![tactic(auto)]
 
-mod answers;
 mod asking;
 mod desks;
 mod entries;
@@ -11,6 +10,7 @@ mod finishing;
 mod heading;
 mod lines;
 mod lists;
+mod numbering;
 mod opening;
 mod printing;
 mod reader;

@@ -22,14 +22,14 @@ pub enum Request {
 pub enum Line<'a> {
     Account(Opening),
     Security {
-        isin: &'a [u8],
+        isin: &'a [u8; 12],
         price: u64,
         risk: u64,
         rate: u64,
     },
     Trade {
         code: u64,
-        isin: &'a [u8],
+        isin: &'a [u8; 12],
         side: Side,
         quantity: u64,
         price: u64,

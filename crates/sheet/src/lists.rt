@@ -1,44 +1,87 @@
-// The memory of a run, which is asked for before the sheet is read.
-ghost use Rattle.std.specs.Prelude.{◌≡◌, ◌≤◌, vec_len, vec_capacity};
+// Lists whose memory is asked for before the sheet is read.
+ghost use Rattle.std.specs.Prelude.{◌≡◌, ◌≤◌, [], ◌∷◌, ◌++◌, length, vec_len, vec_capacity, if◌then◌else◌, Ok, Err, nat_le};
+ghost use Rattle.sheet.specs.declared.faults.Fault.TheVariants.{TooMany};
 
+use crate::faults::Fault;
 use crate::trades::MemberTrade;
 use book::Row;
 use contribution::{Security, Trade};
-use houses::Account;
+use houses::{Account, Opening};
 use std::alloc::{AllocError, Global};
 
-// The lists of the house, of the book and of the desk, with room for all that a sheet may bring.
+// The most accounts, rows, securities and trades of a sheet.
+pub(crate) const ACCOUNTS: usize = 128;
+
+const ROWS: usize = 64;
+
+pub(crate) const SECURITIES: usize = 64;
+
+pub(crate) const TRADES: usize = 512;
+
+// An empty list with room for N items.
+#[derive(Drop)]
+pub(crate) struct Reserved<T, const N: usize> {
+    pub(crate) list: Vec<T>,
+    ghost empty: { vec_len list ≡ 0 },
+    ghost room: { N ≤ vec_capacity list },
+}
+
+impl<T: Drop, const N: usize> Reserved<T, N> {
+    pub(crate) fn new(heap: Global) -> Result<Reserved<T, N>, AllocError> {
+        Ok(Reserved {
+            list: Vec::with_capacity(heap, N)?,
+        })
+    }
+}
+
+// A list of at most N items, which asks for no more memory.
+#[derive(Drop)]
+pub(crate) struct Limited<T, const N: usize> {
+    pub(crate) list: Vec<T>,
+    ghost few: { vec_len list ≤ N },
+    ghost room: { N ≤ vec_capacity list },
+}
+
+impl<T: Drop, const N: usize> Limited<T, N> {
+    pub(crate) fn new(reserved: Reserved<T, N>) -> Limited<T, N>
+        ensures { result.list.items ≡ [] }
+    {
+        Limited {
+            list: reserved.list,
+        }
+    }
+
+    // One item more, or the fault.
+    pub(crate) fn push(&mut self, item: T) -> Result<(), Fault>
+        ensures stop { result ≡ (if nat_le N (length self.old.list.items) then Err TooMany else Ok tt) }
+        ensures items { self.new.list.items ≡ (if nat_le N (length self.old.list.items) then self.old.list.items else self.old.list.items ++ item ∷ []) }
+    {
+        if self.list.len() >= N {
+            return Err(Fault::TooMany);
+        }
+        self.list.push_reserved(item);
+        Ok(())
+    }
+}
+
+// The lists of the head, the house, the book and the desk.
 #[derive(Drop)]
 pub(crate) struct Lists {
-    pub(crate) accounts: Vec<Account>,
-    pub(crate) rows: Vec<Row>,
-    pub(crate) securities: Vec<Security>,
-    pub(crate) trades: Vec<MemberTrade>,
-    pub(crate) own: Vec<Trade>,
-    ghost no_accounts: { vec_len accounts ≡ 0 },
-    ghost accounts_room: { 128 ≤ vec_capacity accounts },
-    ghost no_rows: { vec_len rows ≡ 0 },
-    ghost rows_room: { 64 ≤ vec_capacity rows },
-    ghost no_securities: { vec_len securities ≡ 0 },
-    ghost securities_room: { 64 ≤ vec_capacity securities },
-    ghost no_trades: { vec_len trades ≡ 0 },
-    ghost trades_room: { 512 ≤ vec_capacity trades },
-    ghost own_room: { 512 ≤ vec_capacity own },
+    pub(crate) accounts: Reserved<Account, ACCOUNTS>,
+    pub(crate) rows: Reserved<Row, ROWS>,
+    pub(crate) securities: Reserved<Security, SECURITIES>,
+    pub(crate) trades: Reserved<MemberTrade, TRADES>,
+    pub(crate) own: Reserved<Trade, TRADES>,
 }
 
 impl Lists {
     pub(crate) fn reserve(heap: Global) -> Result<Lists, AllocError> {
-        let accounts = Vec::with_capacity(heap, 128)?;
-        let rows = Vec::with_capacity(heap, 64)?;
-        let securities = Vec::with_capacity(heap, 64)?;
-        let trades = Vec::with_capacity(heap, 512)?;
-        let own = Vec::with_capacity(heap, 512)?;
         Ok(Lists {
-            accounts,
-            rows,
-            securities,
-            trades,
-            own,
+            accounts: Reserved::new(heap)?,
+            rows: Reserved::new(heap)?,
+            securities: Reserved::new(heap)?,
+            trades: Reserved::new(heap)?,
+            own: Reserved::new(heap)?,
         })
     }
 }

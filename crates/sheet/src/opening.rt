@@ -1,31 +1,25 @@
 // The house of a sheet, and the book over it.
-ghost use Rattle.std.specs.Prelude.{◌≤◌, length};
 ghost use Rattle.sheet.specs.Desks.{Opened};
 
 use crate::desks::Desk;
-use crate::lists::Lists;
+use crate::lists::{ACCOUNTS, Limited, Lists};
 use book::Book;
 use division::Refusal;
 use houses::{Opening, TableHouse};
 
 // Makes the house and opens the book.
-pub(crate) fn open(openings: &[Opening], lists: Lists) -> Result<Desk, Refusal>
-    requires { length openings.now ≤ 128 }
-    ensures { Opened openings.now result }
+pub(crate) fn open(openings: &Limited<Opening, ACCOUNTS>, lists: Lists) -> Result<Desk, Refusal>
+    ensures { Opened openings.now.list.items result }
 {
-    match TableHouse::check(openings) {
-        Ok(()) => {}
-        Err(fault) => return Err(fault.refusal()),
-    }
-    let mut house = TableHouse::make(openings, lists.accounts);
-    match Book::check(&mut house) {
-        Ok(()) => {}
-        Err(fault) => return Err(fault.refusal()),
-    }
+    let accounts = openings.list.as_slice();
+    TableHouse::check(accounts)?;
+    let mut house = TableHouse::make(accounts, lists.accounts.list);
+    Book::check(&mut house)?;
     Ok(Desk {
-        book: Book::open(house, lists.rows),
-        securities: lists.securities,
-        trades: lists.trades,
-        own: lists.own,
+        book: Book::open(house, lists.rows.list),
+        held: None,
+        securities: Limited::new(lists.securities),
+        trades: Limited::new(lists.trades),
+        own: Limited::new(lists.own),
     })
 }

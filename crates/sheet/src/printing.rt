@@ -1,19 +1,52 @@
 // How the lines of the output are written.
-ghost use Rattle.std.specs.Prelude.{Some};
-ghost use Rattle.sheet.specs.Days.{printed, ending};
+ghost use Rattle.std.specs.Prelude.{◌≡◌, Some, IfSome};
+ghost use Rattle.sheet.specs.Days.{printed, ending, letter_of};
+ghost use Rattle.sheet.specs.Letters.{letter};
 ghost use Rattle.sheet.specs.Desks.{Written};
 
-use crate::entries::{End, Entry, Output};
+use crate::entries::{End, Entry, Output, Subject};
+use crate::lines::Request;
 use book::Answer;
 use std::fmt;
 use std::fmt::Write;
 
+impl Request {
+    fn letter(self) -> char
+        ensures { result ≡ letter_of self }
+    {
+        match self {
+            Request::Join(_) => 'J',
+            Request::Update(_) => 'U',
+            Request::Regulate(_) => 'R',
+            Request::OpenCase(_) => 'D',
+            Request::Leave(_) => 'L',
+            Request::Income(_) => 'I',
+            Request::Use(_) => 'W',
+            Request::Recover(_) => 'B',
+            Request::Close => 'C',
+            Request::Transfer { .. } => 'X',
+        }
+    }
+}
+
+impl Subject {
+    fn letter(self) -> char
+        ensures { result ≡ letter self }
+    {
+        match self {
+            Subject::Sheet => '?',
+            Subject::Opening => 'O',
+            Subject::Call(request) => request.letter(),
+        }
+    }
+}
+
 impl fmt::Display for Entry {
-    ghost output = { λ e. Some (printed e.line e.letter e.outcome) };
+    ghost output = { λ e. Some (printed e.line (letter e.subject) e.outcome) };
 
     fn fmt<W: fmt::Write>(&self, f: &mut fmt::Formatter<W>) -> fmt::Result {
         let line = self.line;
-        let letter = self.letter;
+        let letter = self.subject.letter();
         match self.outcome {
             Ok(Answer::Amount(n)) => write!(f, "{line} {letter} {n}\n"),
             Ok(Answer::Paid(paid_in, paid_out)) => {
@@ -44,21 +77,14 @@ impl fmt::Display for End {
 }
 
 impl Output {
-    // One line more.
-    pub(crate) fn say(&mut self, entry: Entry)
-        ensures { Written self.old (printed entry.line entry.letter entry.outcome) self.new }
+    // One line more; nothing where memory ran out, now or before.
+    pub(crate) fn say<T: fmt::Display>(&mut self, line: &T)
+        ensures { IfSome (T.output line.now) (λ text. Written self.old text self.new) }
     {
-        if write!(self.text, "{entry}").is_err() {
-            self.cut = true;
-        }
-    }
-
-    // The last line.
-    pub(crate) fn end(&mut self, end: End)
-        ensures { Written self.old (ending end.shares end.fund end.rows) self.new }
-    {
-        if write!(self.text, "{end}").is_err() {
-            self.cut = true;
+        if let Ok(text) = &mut self.text {
+            if let Err(error) = write!(text, "{line}") {
+                self.text = Err(error);
+            }
         }
     }
 }

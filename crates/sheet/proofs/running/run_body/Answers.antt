@@ -1,44 +1,43 @@
-use Rattle.std.proofs.Common.{◌+◌, ◌++◌, length, sym, ap, subst, arith}
-use Rattle.sheet.specs.Lines.{Sized, said, items}
+use Rattle.std.proofs.Common.{◌+◌, Ok, Err, ap, ◌∙◌, subst}
+use Rattle.sheet.specs.Lines.{said, items}
 use Rattle.sheet.specs.Days.{stopped, finish, taken, body}
-use Rattle.sheet.specs.Desks.{day_of, Written}
-use Rattle.sheet.proofs.Printed.{written_both}
-use Rattle.sheet.proofs.Items.{rest_shorter}
-use Rattle.sheet.proofs.Sizes.{first_sized}
-use Rattle.sheet.proofs.Pending.{Pending, body_step, goes, stops, pending_end}
+use Rattle.sheet.specs.Desks.{day_of, Written, Took}
+use Rattle.sheet.proofs.Printed.{written_both, lines_end, line_goes, line_stops}
 use Rattle.sheet.proofs.running.run_body.Goals as goal
-
-pub take-stop-requires : goal.take-stop-requires
-take-stop-requires c = record { sized = subst Sized (sym c.in-Some.ensures.steps.1) (first_sized c.loop-line.line-iterator.rest.now); held = c.loop-line.invariant.2 }
-
-pub returns-in-Some-stop : goal.returns-in-Some-stop
-returns-in-Some-stop c =
-    let s = c.loop-line.line-iterator.rest.now in
-    let went = c.in-Some.ensures.steps in
-    let t = c.next.new.self.rest.now in
-    let n = c.loop-line.n in
-    let k = c.in-Some-stop.fault in
-    let d = day_of c.loop-line.desk in
-    let f = day_of c.take-stop.new.self in
-    let o = c.args.out.now in
-    let b = body (items c.into_iter-line-iterator.result.rest.now) c.args.first (day_of c.args.desk) in
-    let was = subst (λ x. Pending o c.loop-line.out x b) (body_step s t (said c.in-Some.line) n d went.0 went.1 went.2) c.loop-line.invariant.4 in
-    let end = stops (taken n d (said c.in-Some.line)) c.take-stop.result.0 d f o c.loop-line.out c.take-stop.new.out n k (body (items t)) b c.take-stop.ensures.taken c.in-Some-stop.is was in
-    subst (λ x. Written o (body (items x.rest.now) c.args.first (day_of c.args.desk)) c.finish.new.out) c.into_iter-line-iterator.ensures.into_iter_gives (pending_end o c.take-stop.new.out c.finish.new.out (stopped n k ++ finish (n + 1) f) b end (written_both c.take-stop.new.out c.stop.new.self c.finish.new.out (stopped n k) (finish (n + 1) f) c.stop.ensures c.finish.ensures))
+use Rattle.sheet.proofs.running.run_body.Goals.{in-Some+in-Err, in_default}
 
 pub loop-line-preserved : goal.loop-line-preserved
-loop-line-preserved c =
-    let s = c.loop-line.line-iterator.rest.now in
-    let went = c.in-Some.ensures.steps in
-    let t = c.next.new.self.rest.now in
-    let n = c.loop-line.n in
-    let d = day_of c.loop-line.desk in
-    let f = day_of c.take-stop.new.self in
-    let b = body (items c.into_iter-line-iterator.result.rest.now) c.args.first (day_of c.args.desk) in
-    let was = subst (λ x. Pending c.args.out.now c.loop-line.out x b) (body_step s t (said c.in-Some.line) n d went.0 went.1 went.2) c.loop-line.invariant.4 in (
-      tt,
-      tt,
-      c.take-stop.ensures.held,
-      omega (arith, ap length went.2, rest_shorter s went.0, c.loop-line.invariant.3),
-      goes (taken n d (said c.in-Some.line)) c.take-stop.result.0 d f c.args.out.now c.loop-line.out c.take-stop.new.out n (body (items t)) b c.take-stop.ensures.taken c.in_default.is was,
-    )
+loop-line-preserved c = λ p more.
+    let line = c.in-Some.ensures in
+    let l = c.loop-line in
+    let d = day_of l.desk in
+    let f = day_of c.take.new.self in
+    let i = said c.in-Some.said in
+    let s = l.lines.lines.rest.now in
+    let t = c.next_line.new.self.lines.rest.now in
+    let took = subst (λ m. Took (taken m d i) (Ok tt) d f l.out c.take.new.out) line.number c.in_default-take.ensures in
+    let rest = subst (λ m. Written c.take.new.out (body (items t) m f) p) (line.next ∙ ap (λ m. m + 1) line.number) more in
+    l.invariant p (line_goes l.lines.number d l.out p s t i line.line.0 line.line.1 line.line.2 f c.take.new.out took rest)
+
+pub returns : goal.returns
+returns c =
+    let l = c.loop-line in
+    let d = day_of l.desk in
+    let n = l.lines.number in
+    let s = l.lines.lines.rest.now in
+    let next = c.next_line.new.self in
+    let end = c.finish.new.out in
+    elim c.match-next_line.branch [
+      | in-Some+in-Err w ↦
+          (let line = w.in-Some.ensures in
+          let f = day_of w.take.new.self in
+          let i = said w.in-Some.said in
+          let took = subst (λ m. Took (taken m d i) (Err w.in-Err.fault) d f l.out w.take.new.out) line.number w.in-Err.ensures in
+          let stop = subst (λ m. Written w.take.new.out (stopped m w.in-Err.fault) w.stop.new.self) line.number w.stop.ensures in
+          let last = subst (λ m. Written w.stop.new.self (finish m f) end) (line.next ∙ ap (λ m. m + 1) line.number) (rw (← w.out-is, ← w.desk-is) c.finish.ensures) in
+          l.invariant end (line_stops n d l.out end s next.lines.rest.now i line.line.0 line.line.1 line.line.2 f w.take.new.out w.in-Err.fault took (written_both w.take.new.out w.stop.new.self end (stopped n w.in-Err.fault) (finish (n + 1) f) stop last)))
+      | in_default w ↦
+          (let line = w.in_default.ensures in
+          let last = subst (λ m. Written l.out (finish m d) end) line.next (rw (← w.out-is, ← w.desk-is) c.finish.ensures) in
+          l.invariant end (lines_end n d l.out end s line.line.0 last))
+    ]

@@ -1,75 +1,64 @@
-use Rattle.std.proofs.Common.{sym, refl, ap, ◌∙◌}
-use Rattle.contribution.specs.Steps.{minimum}
+use Rattle.std.proofs.Common.{Ok, Err, refl}
+use Rattle.std.proofs.lemmas.Result.{err_from_is_err_and}
 use Rattle.book.specs.declared.answers.Answer.TheVariants.{Amount, Paid}
-use Rattle.book.specs.Refusals.{refusal}
 use Rattle.book.specs.Rows.{share, row_of}
-use Rattle.book.specs.States.{joined, missing, excess, regulated, left, earned, transferred}
+use Rattle.book.specs.States.{missing, excess}
+use Rattle.contribution.specs.Steps.{minimum}
+use Rattle.book.specs.Refusals.{refusal}
 use Rattle.book.specs.Calls as call
-use Rattle.sheet.specs.Desks.{ledger, day_of, open_number}
-use Rattle.sheet.proofs.Asked.{with_book, as_said, as_left, still}
+use Rattle.sheet.specs.declared.lines.Request.TheVariants.{Join, Regulate, Leave, Income, Transfer}
+use Rattle.sheet.specs.Desks.{ledger, day_of}
+use Rattle.sheet.proofs.Asked.{by_call}
 use Rattle.sheet.proofs.desks.Desk.ask.Goals as goal
 
-pub returns-in-Join : goal.returns-in-Join
-returns-in-Join c =
+pub returns-in_err-join-in-Join : goal.returns-in_err-join-in-Join
+returns-in_err-join-in-Join c =
+    let told = err_from_is_err_and c.from_residual.result c.from_residual.ensures.1 in
     let d = day_of c.args.self.now in
-    let s = d.book in
-    let k = call.Join c.in-Join.code in
-    let t = ledger c.join.new.self in
-    let said = c.join.ensures in
-    rw c.in-Join.is (record {
-      answer = c.amount.ensures ∙ as_said k Amount refusal minimum s t refl c.join.result said.answer;
-      day = with_book d (as_left k Amount refusal minimum s t refl c.join.result said.answer said.state);
-      held = c.requires ∙ sym (ap (λ x. open_number x.case) said.state ∙ still (λ x. open_number x.case) c.join.result s (joined s c.in-Join.code) refl);
-    })
+    let a = c.in-Join.code in
+    let by = c.in_err-join-in-Join.ensures in
+    let went = by_call (Join a) (call.Join a) d (ledger c.join.new.self) refusal Amount minimum refl refl (Err c.in_err-join-in-Join.field-0.0) by.answer by.state in
+    rw (c.in-Join.is, told.1, told.2) (record { answer = went.0; day = went.1 })
 
-pub returns-in-Regulate : goal.returns-in-Regulate
-returns-in-Regulate c =
+pub returns-in_err-paid_in-in-Regulate : goal.returns-in_err-paid_in-in-Regulate
+returns-in_err-paid_in-in-Regulate c =
+    let told = err_from_is_err_and c.from_residual-in_err-paid_in-in-Regulate.result c.from_residual-in_err-paid_in-in-Regulate.ensures.1 in
     let d = day_of c.args.self.now in
-    let s = d.book in
-    let k = call.Regulate c.in-Regulate.code in
-    let t = ledger c.regulate.new.self in
-    let said = c.regulate.ensures in
-    rw c.in-Regulate.is (record {
-      answer = c.paid.ensures ∙ as_said k (λ p. Paid p.0 p.1) refusal (missing s c.in-Regulate.code, excess s c.in-Regulate.code) s t refl c.regulate.result said.answer;
-      day = with_book d (as_left k (λ p. Paid p.0 p.1) refusal (missing s c.in-Regulate.code, excess s c.in-Regulate.code) s t refl c.regulate.result said.answer said.state);
-      held = c.requires ∙ sym (ap (λ x. open_number x.case) said.state ∙ still (λ x. open_number x.case) c.regulate.result s (regulated s c.in-Regulate.code) refl);
-    })
+    let a = c.in-Regulate.code in
+    let by = c.in_err-paid_in-in-Regulate.ensures in
+    let went = by_call (Regulate a) (call.Regulate a) d (ledger c.regulate.new.self) refusal (λ p. Paid p.0 p.1) (missing d.book a, excess d.book a) refl refl (Err c.in_err-paid_in-in-Regulate.field-0.0) by.answer by.state in
+    rw (c.in-Regulate.is, told.1, told.2) (record { answer = went.0; day = went.1 })
 
-pub returns-in-Leave : goal.returns-in-Leave
-returns-in-Leave c =
+pub returns-in_err-leave-in-Leave : goal.returns-in_err-leave-in-Leave
+returns-in_err-leave-in-Leave c =
+    let told = err_from_is_err_and c.from_residual-in_err-leave-in-Leave.result c.from_residual-in_err-leave-in-Leave.ensures.1 in
     let d = day_of c.args.self.now in
-    let s = d.book in
-    let k = call.Leave c.in-Leave.code in
-    let t = ledger c.leave.new.self in
-    let said = c.leave.ensures in
-    rw c.in-Leave.is (record {
-      answer = c.amount-in-Leave.ensures ∙ as_said k Amount refusal (share (row_of s.rows c.in-Leave.code)) s t refl c.leave.result said.answer;
-      day = with_book d (as_left k Amount refusal (share (row_of s.rows c.in-Leave.code)) s t refl c.leave.result said.answer said.state);
-      held = c.requires ∙ sym (ap (λ x. open_number x.case) said.state ∙ still (λ x. open_number x.case) c.leave.result s (left s c.in-Leave.code) refl);
-    })
+    let a = c.in-Leave.code in
+    let by = c.in_err-leave-in-Leave.ensures in
+    let went = by_call (Leave a) (call.Leave a) d (ledger c.leave.new.self) refusal Amount (share (row_of d.book.rows a)) refl refl (Err c.in_err-leave-in-Leave.field-0.0) by.answer by.state in
+    rw (c.in-Leave.is, told.1, told.2) (record { answer = went.0; day = went.1 })
 
-pub returns-in-Income : goal.returns-in-Income
-returns-in-Income c =
+pub returns-in_err-income-in-Income : goal.returns-in_err-income-in-Income
+returns-in_err-income-in-Income c =
+    let told = err_from_is_err_and c.from_residual-in_err-income-in-Income.result c.from_residual-in_err-income-in-Income.ensures.1 in
     let d = day_of c.args.self.now in
-    let s = d.book in
-    let k = call.Income c.in-Income.n in
-    let t = ledger c.income.new.self in
-    let said = c.income.ensures in
-    rw c.in-Income.is (record {
-      answer = c.amount-in-Income.ensures ∙ as_said k Amount refusal c.in-Income.n s t refl c.income.result said.answer;
-      day = with_book d (as_left k Amount refusal c.in-Income.n s t refl c.income.result said.answer said.state);
-      held = c.requires ∙ sym (ap (λ x. open_number x.case) said.state ∙ still (λ x. open_number x.case) c.income.result s (earned s c.in-Income.n) refl);
-    })
+    let a = c.in-Income.amount in
+    let by = c.in_err-income-in-Income.ensures in
+    let went = by_call (Income a) (call.Income a) d (ledger c.income.new.self) refusal Amount a refl refl (Err c.in_err-income-in-Income.field-0.0) by.answer by.state in
+    rw (c.in-Income.is, told.1, told.2) (record { answer = went.0; day = went.1 })
 
-pub returns-in-Transfer : goal.returns-in-Transfer
-returns-in-Transfer c =
+pub returns-in_err-other_transfer-in-Transfer : goal.returns-in_err-other_transfer-in-Transfer
+returns-in_err-other_transfer-in-Transfer c =
+    let told = err_from_is_err_and c.from_residual-in_err-other_transfer-in-Transfer.result c.from_residual-in_err-other_transfer-in-Transfer.ensures.1 in
     let d = day_of c.args.self.now in
-    let s = d.book in
-    let k = call.OtherTransfer c.in-Transfer.from c.in-Transfer.to c.in-Transfer.n in
-    let t = ledger c.other_transfer.new.self in
-    let said = c.other_transfer.ensures in
-    rw c.in-Transfer.is (record {
-      answer = c.amount-in-Transfer.ensures ∙ as_said k Amount refusal c.in-Transfer.n s t refl c.other_transfer.result said.answer;
-      day = with_book d (as_left k Amount refusal c.in-Transfer.n s t refl c.other_transfer.result said.answer said.state);
-      held = c.requires ∙ sym (ap (λ x. open_number x.case) said.state ∙ still (λ x. open_number x.case) c.other_transfer.result s (transferred s c.in-Transfer.from c.in-Transfer.to c.in-Transfer.n) refl);
-    })
+    let a = c.in-Transfer in
+    let by = c.in_err-other_transfer-in-Transfer.ensures in
+    let went = by_call (Transfer a.from a.to a.amount) (call.OtherTransfer a.from a.to a.amount) d (ledger c.other_transfer.new.self) refusal Amount a.amount refl refl (Err c.in_err-other_transfer-in-Transfer.field-0.0) by.answer by.state in
+    rw (a.is, told.1, told.2) (record { answer = went.0; day = went.1 })
+
+pub returns-in_ok-paid_in-in-Regulate-clause-answer : goal.returns-in_ok-paid_in-in-Regulate-clause-answer
+returns-in_ok-paid_in-in-Regulate-clause-answer c =
+    let d = day_of c.args.self.now in
+    let a = c.in-Regulate.code in
+    let by = c.in_ok-paid_in-in-Regulate.ensures in
+    rw c.in-Regulate.is (by_call (Regulate a) (call.Regulate a) d (ledger c.regulate.new.self) refusal (λ p. Paid p.0 p.1) (missing d.book a, excess d.book a) refl refl (Ok (c.in_ok-paid_in-in-Regulate.paid_in, c.in_ok-paid_in-in-Regulate.paid_out)) by.answer by.state).0

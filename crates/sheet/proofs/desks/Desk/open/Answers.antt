@@ -1,22 +1,18 @@
-use Rattle.std.proofs.Common.{◌+◌, Err, sym, refl, ap, ◌∙◌}
-use Rattle.book.specs.declared.answers.Answer.TheVariants.{Number}
+use Rattle.std.proofs.Common.{◌+◌, Err, refl}
+use Rattle.std.proofs.lemmas.Result.{err_from_is_err_and}
 use Rattle.book.specs.declared.cases.Case.{Case}
+use Rattle.book.specs.declared.answers.Answer.TheVariants.{Number}
 use Rattle.book.specs.Refusals.{refusal}
 use Rattle.book.specs.Calls as call
-use Rattle.sheet.specs.Desks.{ledger, day_of, open_number}
-use Rattle.sheet.proofs.Asked.{with_book, as_said, as_left}
+use Rattle.sheet.specs.declared.lines.Request.TheVariants.{OpenCase}
+use Rattle.sheet.specs.Desks.{ledger, day_of}
+use Rattle.sheet.proofs.Asked.{by_call}
 use Rattle.sheet.proofs.desks.Desk.open.Goals as goal
 
-pub returns-in-Err-default : goal.returns-in-Err-default
-returns-in-Err-default c =
+pub returns-in_err-case : goal.returns-in_err-case
+returns-in_err-case c =
+    let told = err_from_is_err_and c.from_residual.result c.from_residual.ensures.1 in
     let d = day_of c.args.self.now in
-    let s = d.book in
-    let k = call.OpenCase c.args.code in
-    let v : Case = record { number = s.opened + 1 } in
-    let t = ledger c.open_case.new.self in
-    let said = c.in-Err-default.ensures in
-    record {
-      answer = ap Err c.refusal.ensures ∙ as_said k (λ n. Number n.number) refusal v s t refl (Err c.in-Err-default.fault) said.answer;
-      day = with_book d (as_left k (λ n. Number n.number) refusal v s t refl (Err c.in-Err-default.fault) said.answer said.state);
-      held = c.requires ∙ ap (λ x. open_number x.case) (sym said.state);
-    }
+    let v : Case = record { number = d.book.opened + 1 } in
+    let went = by_call (OpenCase c.args.code) (call.OpenCase c.args.code) d (ledger c.open_case.new.self) refusal (λ n. Number n.number) v refl refl (Err c.in_err-case.field-0.0) c.in_err-case.ensures.answer c.in_err-case.ensures.state in
+    rw (told.1, told.2) (record { answer = went.0; day = went.1 })

@@ -1,26 +1,19 @@
-use Rattle.std.proofs.Common.{sym, refl, ap, ◌∙◌}
+use Rattle.std.proofs.Common.{Err, refl, sym, ap, ◌∙◌}
+use Rattle.std.specs.Option.{option_map}
+use Rattle.std.proofs.lemmas.Result.{err_from_is_err_and}
 use Rattle.book.specs.declared.answers.Answer.TheVariants.{Amount}
 use Rattle.book.specs.Refusals.{refusal}
-use Rattle.book.specs.States.{recovered}
 use Rattle.book.specs.Calls as call
-use Rattle.sheet.specs.Days.{answer_to, book_by}
-use Rattle.sheet.specs.Desks.{ledger, day_of, held_number, open_number}
-use Rattle.sheet.proofs.Asked.{with_book, as_said, as_left, of_case, still, number_recovered}
+use Rattle.sheet.specs.declared.lines.Request.TheVariants.{Recover}
+use Rattle.sheet.specs.Desks.{ledger, day_of}
+use Rattle.sheet.proofs.Asked.{of_case, by_call}
 use Rattle.sheet.proofs.desks.Desk.recover.Goals as goal
 
-pub returns-in-Some : goal.returns-in-Some
-returns-in-Some c =
+pub returns-in_err-recover : goal.returns-in_err-recover
+returns-in_err-recover c =
+    let told = err_from_is_err_and c.from_residual.result c.from_residual.ensures.1 in
     let d = day_of c.args.self.now in
-    let s = d.book in
     let n = c.in-Some.case.number in
-    let is = sym c.requires ∙ ap held_number c.in-Some.is in
-    let k = call.Recover n c.args.n in
-    let v = c.args.n in
-    let t = ledger c.recover.new.self in
-    let said = c.recover.ensures in
-    let asks = of_case s.case n (λ m. call.Recover m c.args.n) is in
-    record {
-      answer = c.amount.ensures ∙ as_said k Amount refusal v s t refl c.recover.result said.answer ∙ ap (λ o. answer_to o s) asks;
-      day = with_book d (as_left k Amount refusal v s t refl c.recover.result said.answer said.state ∙ ap (λ o. book_by o s) asks);
-      held = sym (ap (λ x. open_number x.case) said.state ∙ still (λ x. open_number x.case) c.recover.result s (recovered s c.args.n) (number_recovered c.args.n s.case) ∙ is);
-    }
+    let is = of_case d.book.case n (λ m. call.Recover m c.args.amount) (ap (option_map (λ h. h.number)) (sym c.in-Some.is) ∙ c.args.self.now.holds) in
+    let went = by_call (Recover c.args.amount) (call.Recover n c.args.amount) d (ledger c.recover.new.self) refusal Amount c.args.amount is refl (Err c.in_err-recover.field-0.0) c.in_err-recover.ensures.answer c.in_err-recover.ensures.state in
+    rw (told.1, told.2) (record { answer = went.0; day = went.1 })

@@ -1,26 +1,20 @@
-use Rattle.std.proofs.Common.{sym, refl, ap, ◌∙◌}
+use Rattle.std.proofs.Common.{Err, refl, sym, ap, ◌∙◌}
+use Rattle.std.specs.Option.{option_map}
+use Rattle.std.proofs.lemmas.Result.{err_from_is_err_and}
 use Rattle.book.specs.declared.answers.Answer.TheVariants.{Groups}
 use Rattle.book.specs.Refusals.{refusal}
-use Rattle.book.specs.States.{group_sums, used}
+use Rattle.book.specs.States.{group_sums}
 use Rattle.book.specs.Calls as call
-use Rattle.sheet.specs.Days.{answer_to, book_by}
-use Rattle.sheet.specs.Desks.{ledger, day_of, held_number, open_number}
-use Rattle.sheet.proofs.Asked.{with_book, as_said, as_left, of_case, still, number_charged}
+use Rattle.sheet.specs.declared.lines.Request.TheVariants.{Use}
+use Rattle.sheet.specs.Desks.{ledger, day_of}
+use Rattle.sheet.proofs.Asked.{of_case, by_call}
 use Rattle.sheet.proofs.desks.Desk.use_fund.Goals as goal
 
-pub returns-in-Some : goal.returns-in-Some
-returns-in-Some c =
+pub returns-in_err-base : goal.returns-in_err-base
+returns-in_err-base c =
+    let told = err_from_is_err_and c.from_residual.result c.from_residual.ensures.1 in
     let d = day_of c.args.self.now in
-    let s = d.book in
     let n = c.in-Some.case.number in
-    let is = sym c.requires ∙ ap held_number c.in-Some.is in
-    let k = call.Use n c.args.n in
-    let v = group_sums s c.args.n in
-    let t = ledger c.use_fund.new.self in
-    let said = c.use_fund.ensures in
-    let asks = of_case s.case n (λ m. call.Use m c.args.n) is in
-    record {
-      answer = c.groups.ensures ∙ as_said k (λ g. Groups g.0 g.1 g.2 g.3) refusal v s t refl c.use_fund.result said.answer ∙ ap (λ o. answer_to o s) asks;
-      day = with_book d (as_left k (λ g. Groups g.0 g.1 g.2 g.3) refusal v s t refl c.use_fund.result said.answer said.state ∙ ap (λ o. book_by o s) asks);
-      held = sym (ap (λ x. open_number x.case) said.state ∙ still (λ x. open_number x.case) c.use_fund.result s (used s c.args.n) (number_charged c.args.n s.case) ∙ is);
-    }
+    let is = of_case d.book.case n (λ m. call.Use m c.args.amount) (ap (option_map (λ h. h.number)) (sym c.in-Some.is) ∙ c.args.self.now.holds) in
+    let went = by_call (Use c.args.amount) (call.Use n c.args.amount) d (ledger c.use_fund.new.self) refusal (λ g. Groups g.0 g.1 g.2 g.3) (group_sums d.book c.args.amount) is refl (Err c.in_err-base.field-0.0) c.in_err-base.ensures.answer c.in_err-base.ensures.state in
+    rw (told.1, told.2) (record { answer = went.0; day = went.1 })
