@@ -1,5 +1,5 @@
 // The fields of a line, read one after the other.
-ghost use Rattle.std.specs.Prelude.{◌≡◌, ◌≤◌, length};
+ghost use Rattle.std.specs.Prelude.{◌≡◌, ◌≤◌, length, Some, None, IfSome};
 ghost use Rattle.std.specs.Option.{option_map};
 ghost use Rattle.std.specs.List.{prefix_len};
 ghost use Rattle.sheet.specs.Fields.{field, number, isin, side, but, paired, next, last, only};
@@ -11,20 +11,17 @@ pub(crate) fn length_before(bytes: &[u8], end: u8) -> usize
     ensures value { result ≡ prefix_len (but end) bytes.now }
     ensures bound { result ≤ length bytes.now }
 {
-    for (i, b) in bytes.iter().enumerate() {
-        if *b == end {
-            return i;
-        }
-    }
-    bytes.len()
+    bytes.iter().take_while(|b| **b != end).count()
 }
 
+// The most digits of a number.
+const DIGITS: usize = 10;
+
 // The value of 1 to 10 digits without a leading zero.
-fn number(digits: &[u8]) -> Option<u64>
+pub(crate) fn number(digits: &[u8]) -> Option<u64>
     ensures { result ≡ number digits.now }
 {
-    let n = digits.len();
-    if n < 1 || n > 10 || (n > 1 && digits[0] == b'0') {
+    if digits.len() > DIGITS || matches!(digits, [] | [b'0', _, ..]) {
         return None;
     }
     let mut value: u64 = 0;
@@ -37,13 +34,19 @@ fn number(digits: &[u8]) -> Option<u64>
     Some(value)
 }
 
-fn side(letters: &[u8]) -> Option<Side>
+pub(crate) fn isin(bytes: &[u8]) -> Option<&[u8; 12]>
+    ensures { option_map (λ x. x.now) result ≡ isin bytes.now }
+{
+    bytes.try_into().ok()
+}
+
+pub(crate) fn side(letters: &[u8]) -> Option<Side>
     ensures { result ≡ side letters.now }
 {
-    if letters.len() != 1 {
+    let [letter] = letters else {
         return None;
-    }
-    match char::from(letters[0]) {
+    };
+    match char::from(*letter) {
         'K' => Some(Side::Bought),
         'S' => Some(Side::Sold),
         _ => None,
@@ -76,36 +79,27 @@ impl<'a> Fields<'a> {
         Some(field)
     }
 
-    pub(crate) fn number(&mut self) -> Option<u64>
-        ensures { paired result self.new.rest.now ≡ next number self.old.rest.now }
+    // The next field, as `read` takes it.
+    pub(crate) fn next<T, F: FnOnce(&'a [u8]) -> Option<T>>(&mut self, read: F) -> Option<T>
+        requires { F.IsAlwaysCallable read }
+        ensures read { IfSome result (λ v. (x : _) × (field self.old.rest.now ≡ Some (x.now, self.new.rest.now)) × F.post read x (Some v)) }
+        ensures unread { result ≡ None → IfSome (field self.old.rest.now) (λ f. (x : _) × (x.now ≡ f.0) × F.post read x None) }
     {
-        number(self.field()?)
-    }
-
-    pub(crate) fn isin(&mut self) -> Option<&'a [u8; 12]>
-        ensures { paired (option_map (λ x. x.now) result) self.new.rest.now ≡ next isin self.old.rest.now }
-    {
-        self.field()?.try_into().ok()
-    }
-
-    pub(crate) fn side(&mut self) -> Option<Side>
-        ensures { paired result self.new.rest.now ≡ next side self.old.rest.now }
-    {
-        side(self.field()?)
+        read(self.field()?)
     }
 
     // Nothing where a field is left.
     pub(crate) fn end(&self) -> Option<()>
         ensures { result ≡ last self.now.rest.now tt }
     {
-        if self.rest.is_empty() { Some(()) } else { None }
+        self.rest.is_empty().then_some(())
     }
 
     // The number that is the only field.
     pub(crate) fn only(mut self) -> Option<u64>
         ensures { result ≡ only self.entry.rest.now }
     {
-        let number = self.number()?;
+        let number = self.next(number)?;
         self.end()?;
         Some(number)
     }

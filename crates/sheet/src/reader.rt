@@ -4,15 +4,15 @@ ghost use Rattle.std.specs.Option.{option_map};
 ghost use Rattle.sheet.specs.Lines.{account, security, trade, transfer, told, by_letter, malformed, read, said, Stepped};
 ghost use Rattle.std.specs.Iterator.{at_most};
 
-use crate::fields::{Fields, length_before};
+use crate::fields::{Fields, isin, length_before, number, side};
 use crate::lines::{BadLine, Line, Request};
 use houses::Opening;
 
 fn account(mut fields: Fields<'_>) -> Option<Line<'_>>
     ensures { option_map told result ≡ account fields.entry.rest.now }
 {
-    let account = fields.number()?;
-    let balance = fields.number()?;
+    let account = fields.next(number)?;
+    let balance = fields.next(number)?;
     fields.end()?;
     Some(Line::Account(Opening { account, balance }))
 }
@@ -20,10 +20,10 @@ fn account(mut fields: Fields<'_>) -> Option<Line<'_>>
 fn security(mut fields: Fields<'_>) -> Option<Line<'_>>
     ensures { option_map told result ≡ security fields.entry.rest.now }
 {
-    let isin = fields.isin()?;
-    let price = fields.number()?;
-    let risk = fields.number()?;
-    let rate = fields.number()?;
+    let isin = fields.next(isin)?;
+    let price = fields.next(number)?;
+    let risk = fields.next(number)?;
+    let rate = fields.next(number)?;
     fields.end()?;
     Some(Line::Security {
         isin,
@@ -36,11 +36,11 @@ fn security(mut fields: Fields<'_>) -> Option<Line<'_>>
 fn trade(mut fields: Fields<'_>) -> Option<Line<'_>>
     ensures { option_map told result ≡ trade fields.entry.rest.now }
 {
-    let code = fields.number()?;
-    let isin = fields.isin()?;
-    let side = fields.side()?;
-    let quantity = fields.number()?;
-    let price = fields.number()?;
+    let code = fields.next(number)?;
+    let isin = fields.next(isin)?;
+    let side = fields.next(side)?;
+    let quantity = fields.next(number)?;
+    let price = fields.next(number)?;
     fields.end()?;
     Some(Line::Trade {
         code,
@@ -54,9 +54,9 @@ fn trade(mut fields: Fields<'_>) -> Option<Line<'_>>
 fn transfer(mut fields: Fields<'_>) -> Option<Line<'_>>
     ensures { option_map told result ≡ transfer fields.entry.rest.now }
 {
-    let from = fields.number()?;
-    let to = fields.number()?;
-    let amount = fields.number()?;
+    let from = fields.next(number)?;
+    let to = fields.next(number)?;
+    let amount = fields.next(number)?;
     fields.end()?;
     Some(Line::Call(Request::Transfer { from, to, amount }))
 }
