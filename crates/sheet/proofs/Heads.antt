@@ -1,11 +1,11 @@
 -- The head of a sheet, line by line.
-use Rattle.std.proofs.Common.{◌≡◌, ℕ, ◌+◌, ◌<◌, true, false, cond, Bool, leb, List, [], ◌∷◌, ◌++◌, length, Some, None, Ok, Err, Result, sym, refl, ap, ◌∙◌}
+use Rattle.std.proofs.Common.{◌≡◌, ℕ, ◌+◌, ◌<◌, true, false, cond, Bool, leb, List, [], ◌∷◌, ◌++◌, length, Some, Ok, Err, Result, sym, refl, ap, ◌∙◌}
 use Rattle.std.proofs.lemmas.Bool.{cond-false}
 use Rattle.houses.specs.declared.openings.Opening.{Opening}
 use Rattle.sheet.specs.declared.faults.Fault.{Fault}
 use Rattle.sheet.specs.declared.faults.Fault.TheVariants.{TooMany}
 use Rattle.sheet.specs.Lines.{Item, Account, Listed, Traded, Asked, BadAccount, Bad, first, rest, items}
-use Rattle.sheet.specs.Days.{stopped, no_book, opening, head}
+use Rattle.sheet.specs.Days.{head}
 use Rattle.sheet.specs.Desks.{in_head}
 use Rattle.sheet.proofs.Items.{items_step}
 
@@ -18,24 +18,6 @@ module _ (is : List Item) (n : ℕ) (os : List Opening) where
   head_account (Asked q) a e = cc
   head_account BadAccount a e = cc
   head_account Bad a e = cc
-
-  -- one that ends the head
-  pub head_behind : (i : Item) → Ok None ≡ in_head i → head (i ∷ is) n os ≡ opening n os (i ∷ is)
-  head_behind (Account b) e = cc
-  head_behind (Listed s) e = refl
-  head_behind (Traded code t) e = refl
-  head_behind (Asked q) e = refl
-  head_behind BadAccount e = cc
-  head_behind Bad e = refl
-
-  -- one that stops the run
-  pub head_stop : (i : Item) (fault : Fault) → Err fault ≡ in_head i → head (i ∷ is) n os ≡ stopped n fault ++ no_book
-  head_stop (Account b) fault e = cc
-  head_stop (Listed s) fault e = cc
-  head_stop (Traded code t) fault e = cc
-  head_stop (Asked q) fault e = cc
-  head_stop BadAccount fault e = cc
-  head_stop Bad fault e = cc
 
 -- one account more, behind those that are in the list already
 pub head_more : (s t : List ℕ) (n : ℕ) (os more : List Opening) (i : Item) (a : Opening) → 0 < length s → i ≡ first s → t ≡ rest s → Ok (Some a) ≡ in_head i →

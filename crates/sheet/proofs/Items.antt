@@ -1,28 +1,17 @@
 -- The first line of a sheet, and the items one after the other.
 use Rattle.std.proofs.Common.{◌≡◌, ℕ, zero, suc, ◌+◌, ◌<◌, ◌≤◌, eqb, List, [], ◌∷◌, length, take, drop, sym, refl, ap, ◌∙◌, ⊎_elim, arith}
 use Rattle.std.specs.List.{prefix_len}
-use Rattle.std.proofs.lemmas.List.{take_all, drop_all, drop-drop, length-drop}
-use Rattle.std.proofs.lemmas.Bool.{cases_eq, eq-eqb, ne_eqb, lt-ltb, le-ltb, cond-true, cond-false}
-use Rattle.sheet.specs.Lines.{malformed, read, text_byte, first, rest, items_in, items}
+use Rattle.std.proofs.lemmas.List.{drop-drop, length-drop}
+use Rattle.std.proofs.lemmas.Bool.{cases_eq, eq-eqb, ne_eqb, lt-ltb, cond-true, cond-false}
+use Rattle.sheet.specs.Lines.{read, text_byte, first, rest, items_in, items}
 
 -- s is cut into t and u before its first byte 10
 module _ (s t u : List ℕ) (n : ℕ) (e : n ≡ prefix_len text_byte s) (a : t ≡ take n s) (b : u ≡ drop n s) where
-  -- there is none
-  pub unfinished : length u ≡ 0 → (malformed t ≡ first s) × (u ≡ rest s)
-  unfinished z =
-      let k : length s ≤ n = omega (arith, length-drop n s, ap length b) in
-      let l : length s ≤ prefix_len text_byte s = omega arith in
-      (ap malformed (a ∙ take_all n s k) ∙ sym (cond-false _ _ _ (le-ltb _ _ l)), b ∙ drop_all n s k ∙ sym (drop_all _ s (omega arith)))
-
-  -- and v stands behind it
+  -- and v stands behind that byte
   pub finished : (x : ℕ) (v : List ℕ) → u ≡ x ∷ v → (read t ≡ first s) × (v ≡ rest s)
   finished x v d =
       let k : prefix_len text_byte s < length s = omega (arith, length-drop n s, ap length (sym b ∙ d)) in
       (ap read (a ∙ ap (λ m. take m s) e) ∙ sym (cond-true _ _ _ (lt-ltb _ _ k)), ap (drop 1) (sym d ∙ b) ∙ drop-drop 1 n s ∙ ap (λ m. drop (m + 1) s) e)
-
--- the bytes behind a line are fewer
-pub rest_shorter : (s : List ℕ) → 0 < length s → length (rest s) < length s
-rest_shorter s h = omega (arith, length-drop (prefix_len text_byte s + 1) s)
 
 -- without bytes there is no line, however many are allowed
 none : (k : ℕ) (s : List ℕ) → length s ≡ 0 → items_in k s ≡ []

@@ -70,10 +70,7 @@ impl<'a> Fields<'a> {
     fn field(&mut self) -> Option<&'a [u8]>
         ensures { paired (option_map (λ x. x.now) result) self.new.rest.now ≡ field self.old.rest.now }
     {
-        let (first, text) = self.rest.split_first()?;
-        if *first != b' ' {
-            return None;
-        }
+        let text = self.rest.strip_prefix(b" ")?;
         let (field, rest) = text.split_at(length_before(text, b' '));
         self.rest = rest;
         Some(field)

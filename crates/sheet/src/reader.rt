@@ -103,10 +103,7 @@ fn parse(text: &[u8]) -> Result<Line<'_>, BadLine>
     let Some((letter, rest)) = text.split_first() else {
         return Err(BadLine::Other);
     };
-    match by_letter(*letter, Fields::new(rest)) {
-        Some(line) => Ok(line),
-        None => Err(malformed(text)),
-    }
+    by_letter(*letter, Fields::new(rest)).ok_or_else(|| malformed(text))
 }
 
 // The lines that are left of a sheet.

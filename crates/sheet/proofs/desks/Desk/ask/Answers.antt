@@ -56,9 +56,10 @@ returns-in_err-other_transfer-in-Transfer c =
     let went = by_call (Transfer a.from a.to a.amount) (call.OtherTransfer a.from a.to a.amount) d (ledger c.other_transfer.new.self) refusal Amount a.amount refl refl (Err c.in_err-other_transfer-in-Transfer.field-0.0) by.answer by.state in
     rw (a.is, told.1, told.2) (record { answer = went.0; day = went.1 })
 
-pub returns-in_ok-paid_in-in-Regulate-clause-answer : goal.returns-in_ok-paid_in-in-Regulate-clause-answer
-returns-in_ok-paid_in-in-Regulate-clause-answer c =
+pub returns-in_ok-paid_in-in-Regulate : goal.returns-in_ok-paid_in-in-Regulate
+returns-in_ok-paid_in-in-Regulate c =
     let d = day_of c.args.self.now in
     let a = c.in-Regulate.code in
-    let by = c.in_ok-paid_in-in-Regulate.ensures in
-    rw c.in-Regulate.is (by_call (Regulate a) (call.Regulate a) d (ledger c.regulate.new.self) refusal (λ p. Paid p.0 p.1) (missing d.book a, excess d.book a) refl refl (Ok (c.in_ok-paid_in-in-Regulate.paid_in, c.in_ok-paid_in-in-Regulate.paid_out)) by.answer by.state).0
+    let r = c.in_ok-paid_in-in-Regulate in
+    let went = by_call (Regulate a) (call.Regulate a) d (ledger c.regulate.new.self) refusal (λ p. Paid p.0 p.1) (missing d.book a, excess d.book a) refl refl (Ok (r.paid_in, r.paid_out)) r.ensures.answer r.ensures.state in
+    rw c.in-Regulate.is (record { answer = went.0; day = went.1 })

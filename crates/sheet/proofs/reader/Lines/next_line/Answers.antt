@@ -1,11 +1,6 @@
 use Rattle.std.proofs.Common.{◌∙◌, rules}
-use Rattle.sheet.proofs.Items.{unfinished, finished}
+use Rattle.sheet.proofs.Items.{finished}
 use Rattle.sheet.proofs.reader.Lines.next_line.Goals as goal
-
-pub returns-in_default : goal.returns-in_default
-returns-in_default c =
-    let went = unfinished c.args.self.now.rest.now _ _ _ c.length_before.ensures.value c.split_at.ensures.front c.split_at.ensures.back c.in_default.ensures.cases in
-    (search rules, c.malformed.ensures ∙ went.0, went.1)
 
 pub returns : goal.returns
 returns c =
