@@ -17,7 +17,7 @@ pub(crate) fn length_before(bytes: &[u8], end: u8) -> usize
 // The most digits of a number.
 const DIGITS: usize = 10;
 
-// The value of 1 to 10 digits without a leading zero.
+// The value of 1 to 10 digits without a leading zero. A loop: that the sum fits follows from how many digits came before, which a closure cannot be told.
 pub(crate) fn number(digits: &[u8]) -> Option<u64>
     ensures { result ≡ number digits.now }
 {

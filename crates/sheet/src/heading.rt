@@ -30,10 +30,12 @@ fn in_head(line: Result<Line<'_>, BadLine>) -> Result<Option<Opening>, Fault>
 }
 
 // Reads the accounts into the list.
-fn read_head<'a>(lines: Numbered<'a>, list: Reserved<Opening, ACCOUNTS>) -> Result<Head<'a>, Stop>
+fn read_head<'a>(
+    mut lines: Numbered<'a>,
+    list: Reserved<Opening, ACCOUNTS>,
+) -> Result<Head<'a>, Stop>
     ensures { Headed (head (items lines.entry.lines.rest.now) lines.entry.number []) result }
 {
-    let mut lines = lines;
     let mut accounts = Limited::new(list);
     let mut behind = lines;
     while let Some((n, line)) = behind.next_line() {
