@@ -20,5 +20,6 @@ pub use answers::Answer;
 pub use books::Book;
 pub use cases::Case;
 pub use faults::Fault;
+pub use members::ROWS;
 pub use rows::{OpenCase, Row, Standing};
 pub use settling::FUND;

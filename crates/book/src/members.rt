@@ -18,8 +18,8 @@ use crate::standings::Event;
 use contribution::{MINIMUM, Security, Trade, contribution};
 use houses::{House, Number};
 
-// The most rows.
-const ROWS: usize = 64;
+// The most rows of a book.
+pub const ROWS: usize = 64;
 
 impl<C: House> Book<C> {
     // Whether a member can join, as far as the book knows.

@@ -25,5 +25,6 @@ pub use list_house::ListHouse;
 pub use numbers::Number;
 pub use openings::Opening;
 pub use table::Account;
+pub use table_calls::ACCOUNTS;
 pub use table_house::TableHouse;
 pub use transfers::Transfer;

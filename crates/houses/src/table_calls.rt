@@ -15,7 +15,7 @@ use crate::telling::first_told;
 use crate::transfers::Transfer;
 
 // The most accounts of a table house.
-const ACCOUNTS: usize = 128;
+pub const ACCOUNTS: usize = 128;
 
 impl TableHouse {
     // Whether a table house can be made with these accounts.

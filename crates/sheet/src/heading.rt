@@ -6,10 +6,10 @@ ghost use Rattle.sheet.specs.Desks.{in_head, Headed};
 
 use crate::faults::{Fault, Stop};
 use crate::lines::{BadLine, Line};
-use crate::lists::{ACCOUNTS, Limited, Reserved};
+use crate::lists::{Limited, Reserved};
 use crate::numbering::Numbered;
 use crate::reader::Lines;
-use houses::Opening;
+use houses::{ACCOUNTS, Opening};
 
 // The accounts of a sheet, and the lines below them.
 #[derive(Drop)]
@@ -50,7 +50,7 @@ fn read_head<'a>(
 }
 
 // The most bytes of a sheet.
-const BYTES: usize = 65_536;
+pub const BYTES: usize = 65_536;
 
 // Looks at the size and the first line, and reads the head below it.
 pub(crate) fn read_sheet<'a>(

@@ -19,6 +19,7 @@ mod taking;
 mod trades;
 
 pub use faults::Fault;
+pub use heading::BYTES;
 pub use lines::{BadLine, Line, Request};
 pub use reader::Lines;
 pub use running::run;

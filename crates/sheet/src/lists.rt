@@ -4,16 +4,12 @@ ghost use Rattle.sheet.specs.declared.faults.Fault.TheVariants.{TooMany};
 
 use crate::faults::Fault;
 use crate::trades::MemberTrade;
-use book::Row;
+use book::{ROWS, Row};
 use contribution::{Security, Trade};
-use houses::{Account, Opening};
+use houses::{ACCOUNTS, Account, Opening};
 use std::alloc::{AllocError, Global};
 
-// The most accounts, rows, securities and trades of a sheet.
-pub(crate) const ACCOUNTS: usize = 128;
-
-const ROWS: usize = 64;
-
+// The most securities and trades of a sheet.
 pub(crate) const SECURITIES: usize = 64;
 
 pub(crate) const TRADES: usize = 512;

@@ -2,10 +2,10 @@
 ghost use Rattle.sheet.specs.Desks.{Opened};
 
 use crate::desks::Desk;
-use crate::lists::{ACCOUNTS, Limited, Lists};
+use crate::lists::{Limited, Lists};
 use book::Book;
 use division::Refusal;
-use houses::{Opening, TableHouse};
+use houses::{ACCOUNTS, Opening, TableHouse};
 
 // Makes the house and opens the book.
 pub(crate) fn open(openings: &Limited<Opening, ACCOUNTS>, lists: Lists) -> Result<Desk, Refusal>

@@ -9,10 +9,10 @@ use crate::desks::Desk;
 use crate::entries::{End, Entry, Output, Subject};
 use crate::faults::Stop;
 use crate::heading::{Head, read_sheet};
-use crate::lists::{ACCOUNTS, Lists, Reserved};
+use crate::lists::{Lists, Reserved};
 use crate::numbering::Numbered;
 use crate::opening::open;
-use houses::Opening;
+use houses::{ACCOUNTS, Opening};
 use std::alloc::{AllocError, Global};
 
 // What is printed without a book.

@@ -161,11 +161,9 @@ fn cases(rt: HostRuntime) -> Result<(), Fail> {
 
 // A head and then ends of lines up to the size.
 fn sized(heap: Global, size: usize) -> Result<Vec<u8>, Fail> {
-    let head = b"AFG 1\nH 0 0\n";
     let mut bytes = Vec::with_capacity(heap, size)?;
-    for i in 0..size {
-        bytes.push(head.get(i).copied().unwrap_or(b'\n'))?;
-    }
+    bytes.extend_from_slice(b"AFG 1\nH 0 0\n")?;
+    bytes.resize(size, b'\n')?;
     Ok(bytes)
 }
 
