@@ -3,7 +3,7 @@ ghost use Rattle.std.specs.Prelude.{◌≡◌, ℕ, ◌+◌, ◌<◌, ◌≤◌,
 ghost use Rattle.division.specs.Refusals.{answer, after, checked};
 ghost use Rattle.book.specs.Refusals.{refusal};
 ghost use Rattle.book.specs.Rows.{charges, nobody};
-ghost use Rattle.book.specs.Groups.{in_group, has, charged_in, charged_all, pays, levied, Levy, used_rows};
+ghost use Rattle.book.specs.Groups.{in_group, charged_in, charged_all, pays, Levy, used_rows};
 ghost use Rattle.book.specs.declared.groups.Group.TheVariants.{OwnBase, OwnReserve, OtherBases, OtherReserves};
 ghost use Rattle.book.specs.States.{more_charged, usage, use_checks, group_sums, used, more_recovered, recovery, recover_checks, recovered};
 ghost use Rattle.book.specs.Books.{view};

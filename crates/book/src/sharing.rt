@@ -16,6 +16,7 @@ use crate::books::Book;
 use crate::checks::check_amount;
 use crate::faults::Fault;
 use crate::groups::{Basis, weight};
+use crate::members::ROWS;
 use crate::rows::Row;
 use crate::settling::{FUND, SETTLEMENT};
 use crate::table::Table;
@@ -60,15 +61,15 @@ impl Table {
     }
 
     // The amount divided over the rows: a part for each, at the front of the list.
-    pub(crate) fn parts(&self, basis: Basis, amount: u64) -> [u64; 64]
+    pub(crate) fn parts(&self, basis: Basis, amount: u64) -> [u64; ROWS]
         requires some { 0 < sum (weights basis self.now.rows.items) }
         requires amount { amount ≤ 4000000000 }
         ensures { take (vec_len self.now.rows) result ≡ parts_of amount (weights basis self.now.rows.items) }
     {
         let count = self.rows.len();
-        let mut weights = [0; 64];
+        let mut weights = [0; ROWS];
         weigh(self.rows.as_slice(), basis, &mut weights);
-        let mut parts = [0; 64];
+        let mut parts = [0; ROWS];
         divide(amount, &weights[0..count], &mut parts[0..count]).unwrap();
         parts
     }

@@ -1,5 +1,5 @@
 // The table of rows, in order of joining.
-ghost use Rattle.std.specs.Prelude.{◌≡◌, ◌+◌, ◌<◌, ◌≤◌, [], ◌∷◌, ◌++◌, map, IfSome, slice_set, vec_len, vec_capacity};
+ghost use Rattle.std.specs.Prelude.{◌≡◌, ◌+◌, ◌<◌, ◌≤◌, [], ◌∷◌, ◌++◌, map, IfSome, vec_len, vec_capacity};
 ghost use Rattle.std.specs.Option.{MatchOption};
 ghost use Rattle.std.specs.List.{remove};
 ghost use Rattle.book.specs.Rows.{place, share, shares, charges, row_of, Stands, case_closed};

@@ -1,5 +1,5 @@
 // Houses with some accounts, and books over them.
-use book::Book;
+use book::{Book, ROWS};
 use houses::{House, ListHouse, Opening, TableHouse};
 use std::alloc::{AllocError, Global};
 use std::test::Fail;
@@ -44,7 +44,7 @@ pub(crate) fn list(heap: Global, accounts: &[Account], room: usize) -> Result<Li
 pub(crate) fn opened<C: House + Drop>(heap: Global, mut house: C) -> Result<Book<C>, Fail> {
     match Book::check(&mut house) {
         Ok(()) => {
-            let rows = Vec::with_capacity(heap, 64)?;
+            let rows = Vec::with_capacity(heap, ROWS)?;
             Ok(Book::open(house, rows))
         }
         Err(_) => Err(Fail::new("no book over this house")),

@@ -1,5 +1,5 @@
 // The contribution: securities and trades checked, summed and brought to what a member must contribute.
-ghost use Rattle.std.specs.Prelude.{◌≡◌, ℕ, ◌+◌, ◌-◌, ◌*◌, ◌^◌, ◌≤◌, length, IfOk, OnOk};
+ghost use Rattle.std.specs.Prelude.{◌≡◌, ◌+◌, ◌-◌, ◌*◌, ◌^◌, ◌≤◌, length, IfOk, OnOk};
 ghost use Rattle.division.specs.Refusals.{answer, checked};
 ghost use Rattle.contribution.specs.Refusals.{refusal};
 ghost use Rattle.contribution.specs.Steps.{provisional, calculated, rounded_up, renewed};

@@ -1,5 +1,5 @@
 // The checks of securities and trades: the first fault in their order, with its position.
-ghost use Rattle.std.specs.Prelude.{◌≡◌, ℕ, ◌<◌, ◌≤◌, true, length, take, IfOk, IfErr, Some, Ok, Err, slice_index_or};
+ghost use Rattle.std.specs.Prelude.{◌≡◌, ℕ, ◌<◌, ◌≤◌, true, length, take, IfOk, IfErr, OnOk, Some, Ok, Err, slice_index_or};
 ghost use Rattle.std.specs.Option.{unwrap_or};
 ghost use Rattle.division.specs.Refusals.{answer, checked, clear};
 ghost use Rattle.contribution.specs.Refusals.{refusal};
@@ -61,7 +61,7 @@ pub(crate) struct Listed<'a> {
 impl<'a> Listed<'a> {
     pub(crate) fn check(securities: &'a [Security]) -> Result<Listed<'a>, Fault>
         requires { length securities.now ≤ 65535 }
-        ensures passed { IfOk result (λ listed. clear (securities_checks securities.now) ≡ Ok tt) }
+        ensures passed { OnOk result (clear (securities_checks securities.now) ≡ Ok tt) }
         ensures refused { IfErr result (λ fault. clear (securities_checks securities.now) ≡ Err (refusal fault)) }
         ensures same { IfOk result (λ listed. listed.securities.now ≡ securities.now) }
     {
@@ -76,7 +76,7 @@ impl<'a> Listed<'a> {
         ensures answer { answer refusal result ≡ checked (trade_checks self.now.securities.now i trade.now) (unwrap_or (place self.now.securities.now trade.now.isin.bytes) 0) }
         ensures found { IfOk result (λ k. place self.now.securities.now trade.now.isin.bytes ≡ Some k) }
         ensures bound { IfOk result (λ k. k < length self.now.securities.now) }
-        ensures dealt { IfOk result (λ k. dealt trade.now ≡ true) }
+        ensures dealt { OnOk result (dealt trade.now ≡ true) }
     {
         if !trade.isin.is_well_formed() {
             return Err(Fault::Isin(i));

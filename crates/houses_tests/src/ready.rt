@@ -1,5 +1,5 @@
 // The table house is always ready: it refuses no transfer as not ready.
-ghost use Rattle.std.specs.Prelude.{◌≡◌, Err, ◌≢◌};
+ghost use Rattle.std.specs.Prelude.{Err, ◌≢◌};
 ghost use Rattle.division.specs.Refusals.{answer};
 ghost use Rattle.houses.specs.Refusals.{refusal, by_house};
 

@@ -1,4 +1,3 @@
-pub mod Digits
 pub mod Items
 pub mod Asked
 pub mod Printed

@@ -1,5 +1,5 @@
 // The head of a sheet: the lines of accounts directly below its first line.
-ghost use Rattle.std.specs.Prelude.{◌≡◌, [], length};
+ghost use Rattle.std.specs.Prelude.{◌≡◌, []};
 ghost use Rattle.sheet.specs.Lines.{items, said};
 ghost use Rattle.sheet.specs.Days.{head, run};
 ghost use Rattle.sheet.specs.Desks.{in_head, Headed};
@@ -18,7 +18,7 @@ pub(crate) struct Head<'a> {
     pub(crate) lines: Numbered<'a>,
 }
 
-// The account in the line, unless it is one that ends the head.
+// The account in the line, nothing where the head ends, or the fault of an account that is not well formed.
 fn in_head(line: Result<Line<'_>, BadLine>) -> Result<Option<Opening>, Fault>
     ensures { result ≡ in_head (said line.entry) }
 {

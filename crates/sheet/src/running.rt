@@ -1,5 +1,5 @@
 // The run of a sheet.
-ghost use Rattle.std.specs.Prelude.{◌≡◌, ◌++◌, IfOk, None, string_bytes};
+ghost use Rattle.std.specs.Prelude.{◌≡◌, ◌++◌, IfOk, string_bytes};
 ghost use Rattle.sheet.specs.Lines.{items};
 ghost use Rattle.sheet.specs.Days.{stopped, no_book, opening, body, run};
 ghost use Rattle.sheet.specs.Desks.{day_of, Written};
