@@ -26,10 +26,10 @@ pub(crate) fn in_group(group: Group, row: &Row) -> u64
     ensures { result ≡ in_group group row.now }
 {
     match (group, row.standing) {
-        (Group::OwnBase, Standing::Defaulting) => row.base,
-        (Group::OwnReserve, Standing::Defaulting) => row.reserve,
-        (Group::OtherBases, Standing::Active | Standing::Barred) => row.base,
-        (Group::OtherReserves, Standing::Active | Standing::Barred) => row.reserve,
+        (Group::OwnBase, Standing::Defaulting)
+        | (Group::OtherBases, Standing::Active | Standing::Barred) => row.base,
+        (Group::OwnReserve, Standing::Defaulting)
+        | (Group::OtherReserves, Standing::Active | Standing::Barred) => row.reserve,
         _ => 0,
     }
 }

@@ -21,7 +21,7 @@ fn place(rows: &[Row], code: u64) -> Option<usize>
     ensures place { result ≡ place rows.now code }
     ensures stands { IfSome result (Stands rows.now code) }
 {
-    rows.iter().position(|row| row.code as u64 == code)
+    rows.iter().position(|row| u64::from(row.code) == code)
 }
 
 // What all members have in the fund.

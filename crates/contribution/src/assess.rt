@@ -58,7 +58,9 @@ fn assess(
     ensures answer { answer refusal result ≡ checked (checks limits.securities limits.trades securities.now trades.now) (provisional securities.now trades.now, calculated securities.now trades.now) }
     ensures positions { OnOk result (positions.new ≡ contribution.positions (length positions.old) securities.now trades.now) }
 {
-    if securities.len() > limits.securities as usize || trades.len() > limits.trades as usize {
+    if securities.len() > usize::from(limits.securities)
+        || trades.len() > usize::from(limits.trades)
+    {
         return Err(Fault::TooMany);
     }
     let listed = Listed::check(securities)?;

@@ -84,9 +84,7 @@ impl<'a> Listed<'a> {
         if !trade.is_dealt() {
             return Err(Fault::Deal(i));
         }
-        let Some(k) = place_of(self.securities, &trade.isin) else {
-            return Err(Fault::NotListed(i));
-        };
+        let k = place_of(self.securities, &trade.isin).ok_or(Fault::NotListed(i))?;
         let dealt = trade.quantity * trade.price;
         let settled = trade.quantity * self.securities[k].price;
         if dealt > LARGEST || settled > LARGEST {

@@ -33,7 +33,7 @@ fn total<T: Weighted>(things: &[T]) -> u128
     requires { length things.now ≤ 64 }
     ensures { result ≡ sum (map T.weight things.now) }
 {
-    things.iter().map(|thing| thing.weight() as u128).sum()
+    things.iter().map(|thing| u128::from(thing.weight())).sum()
 }
 
 // What the weights come to of the amount, rounded down.
@@ -76,7 +76,7 @@ pub fn divide<T: Weighted>(amount: u64, things: &[T], parts: &mut [u64]) -> Resu
         return Err(Fault::Things);
     }
     let all = total(things);
-    if all > LIMIT as u128 {
+    if all > u128::from(LIMIT) {
         return Err(Fault::Things);
     }
     let all = all as u64;

@@ -45,11 +45,11 @@ fn write(accounts: &mut [Account], number: u64, balance: u64)
     requires { is_some (kept accounts.old number) ≡ true }
     ensures { kept accounts.new ≡ rewritten (kept accounts.old) number balance }
 {
-    for account in accounts.iter_mut() {
-        if u64::from(account.number) == number {
-            account.balance = balance;
-            return;
-        }
+    if let Some(i) = accounts
+        .iter()
+        .position(|account| u64::from(account.number) == number)
+    {
+        accounts[i].balance = balance;
     }
 }
 

@@ -65,9 +65,7 @@ impl Desk {
         ensures answer { result ≡ answered Close (day_of self.old) }
         ensures day { day_of self.new ≡ asked Close (day_of self.old) }
     {
-        let Some(case) = self.held.take() else {
-            return Err(Fault::OtherCase.into());
-        };
+        let case = self.held.take().ok_or(Fault::OtherCase)?;
         Ok(end(case, &mut self.book))
     }
 

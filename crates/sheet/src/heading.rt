@@ -65,11 +65,9 @@ pub(crate) fn read_sheet<'a>(
             fault: Fault::TooMany,
         });
     }
-    let Some(rest) = sheet.strip_prefix(b"AFG 1\n") else {
-        return Err(Stop {
-            line: 1,
-            fault: Fault::NoMark,
-        });
-    };
+    let rest = sheet.strip_prefix(b"AFG 1\n").ok_or(Stop {
+        line: 1,
+        fault: Fault::NoMark,
+    })?;
     read_head(Numbered::new(2, Lines::new(rest)), list)
 }

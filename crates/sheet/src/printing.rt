@@ -58,7 +58,7 @@ impl fmt::Display for Entry {
             Ok(Answer::Number(n)) => write!(f, "{line} {letter} {n}\n"),
             Err(refusal) => {
                 let number = refusal.number;
-                let layer = refusal.layer.letter();
+                let layer = refusal.layer;
                 write!(f, "{line} {letter} N {number} {layer}\n")
             }
         }

@@ -100,9 +100,7 @@ fn malformed(text: &[u8]) -> BadLine
 fn parse(text: &[u8]) -> Result<Line<'_>, BadLine>
     ensures { said result ≡ read text.now }
 {
-    let Some((letter, rest)) = text.split_first() else {
-        return Err(BadLine::Other);
-    };
+    let (letter, rest) = text.split_first().ok_or(BadLine::Other)?;
     by_letter(*letter, Fields::new(rest)).ok_or_else(|| malformed(text))
 }
 
