@@ -44,9 +44,7 @@ impl Desk {
         ensures answer { result ≡ answered (Use amount) (day_of self.old) }
         ensures day { day_of self.new ≡ asked (Use amount) (day_of self.old) }
     {
-        let Some(case) = &self.held else {
-            return Err(Fault::OtherCase.into());
-        };
+        let case = self.held.as_ref().ok_or(Fault::OtherCase)?;
         let (base, reserve, bases, reserves) = self.book.use_fund(case, amount)?;
         Ok(Answer::Groups(base, reserve, bases, reserves))
     }
@@ -55,9 +53,7 @@ impl Desk {
         ensures answer { result ≡ answered (Recover amount) (day_of self.old) }
         ensures day { day_of self.new ≡ asked (Recover amount) (day_of self.old) }
     {
-        let Some(case) = &self.held else {
-            return Err(Fault::OtherCase.into());
-        };
+        let case = self.held.as_ref().ok_or(Fault::OtherCase)?;
         Ok(Answer::Amount(self.book.recover(case, amount)?))
     }
 

@@ -1,5 +1,5 @@
 use Rattle.std.proofs.Common.{Err, refl, sym, ap, ◌∙◌}
-use Rattle.std.specs.Option.{option_map}
+use Rattle.std.specs.Option.{option_map, option_copied}
 use Rattle.std.proofs.lemmas.Result.{err_from_is_err_and}
 use Rattle.book.specs.declared.answers.Answer.TheVariants.{Amount}
 use Rattle.book.specs.Refusals.{refusal}
@@ -11,9 +11,10 @@ use Rattle.sheet.proofs.desks.Desk.recover.Goals as goal
 
 pub returns-in_err-recover : goal.returns-in_err-recover
 returns-in_err-recover c =
-    let told = err_from_is_err_and c.from_residual.result c.from_residual.ensures.1 in
+    let told = err_from_is_err_and c.from_residual-in_err-recover.result c.from_residual-in_err-recover.ensures.1 in
     let d = day_of c.args.self.now in
-    let n = c.in-Some.case.number in
-    let is = of_case d.book.case n (λ m. call.Recover m c.args.amount) (ap (option_map (λ h. h.number)) (sym c.in-Some.is) ∙ c.args.self.now.holds) in
+    let n = c.in_ok-case.case.now.number in
+    let held = ap (λ o. option_map (λ h. h.number) (option_copied o)) (sym c.in_ok-case.ensures.ok_part) ∙ ap (option_map (λ h. h.number)) c.as_ref.ensures.value in
+    let is = of_case d.book.case n (λ m. call.Recover m c.args.amount) (held ∙ c.args.self.now.holds) in
     let went = by_call (Recover c.args.amount) (call.Recover n c.args.amount) d (ledger c.recover.new.self) refusal Amount c.args.amount is refl (Err c.in_err-recover.field-0.0) c.in_err-recover.ensures.answer c.in_err-recover.ensures.state in
     rw (told.1, told.2) (record { answer = went.0; day = went.1 })
