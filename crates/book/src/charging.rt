@@ -43,6 +43,7 @@ fn charge(rows: &mut [Row], group: Group, parts: &[u64])
     requires limit { charges rows.old + sum parts.now ≤ 4000000000 }
     ensures { rows.new ≡ charged_all group rows.old parts.now }
 {
+    // by index: after a `zip` with `iter_mut()` nothing is known of what was written
     for (i, part) in parts.iter().enumerate() {
         charge_row(&mut rows[i], group, *part);
     }

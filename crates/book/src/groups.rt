@@ -13,7 +13,7 @@ pub(crate) enum Group {
     OtherReserves,
 }
 
-// What a row weighs by.
+// What a row weighs by: an enum and not a closure, since the definitions of what a call leaves name it.
 #[derive(Clone, Copy)]
 pub(crate) enum Basis {
     Base,

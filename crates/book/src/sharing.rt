@@ -28,6 +28,7 @@ fn weigh(rows: &[Row], basis: Basis, list: &mut [u64])
     requires { length rows.now ≤ length list.old }
     ensures { take (length rows.now) list.new ≡ weights basis rows.now }
 {
+    // by index: after a `zip` with `iter_mut()` nothing is known of what was written
     for (i, row) in rows.iter().enumerate() {
         list[i] = weight(basis, row);
     }
@@ -39,6 +40,7 @@ fn credit(rows: &mut [Row], parts: &[u64])
     requires limit { shares rows.old + sum parts.now ≤ 4000000000 }
     ensures { rows.new ≡ credited rows.old parts.now }
 {
+    // by index: after a `zip` with `iter_mut()` nothing is known of what was written
     for (i, part) in parts.iter().enumerate() {
         rows[i].reserve += *part;
     }
@@ -67,6 +69,7 @@ impl Table {
         ensures { take (vec_len self.now.rows) result ≡ parts_of amount (weights basis self.now.rows.items) }
     {
         let count = self.rows.len();
+        // arrays: no memory is asked for after a book is opened
         let mut weights = [0; ROWS];
         weigh(self.rows.as_slice(), basis, &mut weights);
         let mut parts = [0; ROWS];

@@ -56,7 +56,7 @@ fn fill<T: Weighted>(amount: u64, all: u64, things: &[T], parts: &mut [u64])
 {
     let mut weights: u64 = 0;
     let mut paid: u64 = 0;
-    // not by `zip` with `parts.iter_mut()`: after such a loop nothing is known of what it wrote
+    // by index: after a `zip` with `iter_mut()` nothing is known of what was written
     for (i, thing) in things.iter().enumerate() {
         let reached = weights + thing.weight();
         let part = due(amount, reached, all) - paid;

@@ -28,6 +28,7 @@ pub(crate) fn filled<T: Keeps>(openings: &[Opening], list: Vec<T>) -> Vec<T>
     ensures capacity { vec_capacity result ≡ vec_capacity list }
 {
     let mut kept = list;
+    // not by `extend`, which may ask for memory
     for opening in openings {
         kept.push_reserved(T::keep(opening));
     }

@@ -72,6 +72,7 @@ impl House for ListHouse {
         let receiver = balance_from(&self.entries, to);
         let free = self.entries.len() < self.room;
         judge(free, payer, receiver, Transfer { from, to, amount })?;
+        // both numbers fit: the house has the accounts
         self.entries.push_reserved(Entry::Transfer {
             from: from as Number,
             to: to as Number,

@@ -40,6 +40,7 @@ pub(crate) fn isin(bytes: &[u8]) -> Option<&[u8; 12]>
     bytes.try_into().ok()
 }
 
+// The letters are matched here and not by the side's conversion from a byte: each letter of a sheet can be read off its reader.
 pub(crate) fn side(letters: &[u8]) -> Option<Side>
     ensures { result ≡ side letters.now }
 {

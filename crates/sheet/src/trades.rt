@@ -20,6 +20,7 @@ pub(crate) fn collect(
     ensures { own.new.list.items ≡ trades_of trades.now.list.items code }
 {
     own.list.clear();
+    // not by `extend`, which may ask for memory
     for trade in &trades.list {
         if trade.code == code {
             own.list.push_reserved(trade.trade);
