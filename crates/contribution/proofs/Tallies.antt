@@ -1,13 +1,13 @@
 -- One trade more in the position of its security, and in no other.
-use Rattle.std.proofs.Common.{◌≡◌, ℕ, ◌+◌, ◌-◌, ◌*◌, ◌^◌, ◌<◌, ◌≤◌, Bool, true, false, ltb, ◌≢◌, List, map, length, get_or, take, set, Some, None, sym, ap, ◌∙◌, inl, inr, add-zero, arith, get_or-set_other, get_or-set_same}
-use Rattle.std.specs.List.{position_or_len}
+use Rattle.std.proofs.Common.{◌≡◌, ℕ, ◌+◌, ◌-◌, ◌*◌, ◌^◌, ◌<◌, ◌≤◌, Bool, true, false, ◌≢◌, List, map, length, get_or, take, set, Some, sym, ap, ◌∙◌, inl, inr, add-zero, arith, get_or-set_other, get_or-set_same}
 use Rattle.std.specs.Str.{bytes_eq}
 use lib.ListN.{length-replicate}
 use Rattle.std.proofs.lemmas.List.{get_or_default, same_lists, get_or_append_left, get_or-append_right, get_or-map, get_or-replicate, length-map, length-append}
 use Rattle.std.proofs.lemmas.Slice.Eq.{bytes_eq-Decides}
 use Rattle.std.proofs.lemmas.Iterator.Adapters.{position_from-zero}
-use Rattle.std.proofs.lemmas.List.Sums.{sum_by_more, passes_at_first}
-use Rattle.std.proofs.lemmas.Bool.{cases_order, cases_Bool, cases_eq, cases_lt, both_ways, ltb-true}
+use Rattle.std.proofs.lemmas.List.Quantifiers.{position-Some}
+use Rattle.std.proofs.lemmas.List.Sums.{sum_by_more}
+use Rattle.std.proofs.lemmas.Bool.{cases_order, cases_Bool, cases_eq, cases_lt, both_ways}
 use Rattle.contribution.specs.declared.terms.Security.{Security}
 use Rattle.contribution.specs.declared.terms.Side.{Side}
 use Rattle.contribution.specs.declared.terms.Side.TheVariants.{Bought, Sold}
@@ -26,13 +26,7 @@ pub record Held (ss : List Security) (ts : List Trade) (ps : List Position) : Ty
   pub past : (k : ℕ) → length ss ≤ k → get_or ps k flat ≡ flat
 
 pub placed_in : (ss : List Security) (t : Trade) (k : ℕ) (d : Security) → place ss t.isin.bytes ≡ Some k → in_security (get_or ss k d) t ≡ true
-placed_in ss t k d e =
-    let test : Security → Bool = λ s. in_security s t in
-    let first = position_from-zero test ss in
-    elim (cases_Bool (ltb (position_or_len test ss) (length ss))) [
-      | inl l ↦ (let f : Some (position_or_len test ss) ≡ Some k = simp l at first ∙ e in let g : position_or_len test ss ≡ k = cc in rw g at (passes_at_first {X = Security} test ss d (ltb-true _ _ l)))
-      | inr l ↦ (let f : None ≡ Some k = simp l at first ∙ e in cc)
-    ]
+placed_in ss t k d e = let test : Security → Bool = λ s. in_security s t in (position-Some test ss k d (position_from-zero test ss ∙ e)).1
 
 -- of distinct securities a trade is in one only
 pub elsewhere : (ss : List Security) (t : Trade) (j k : ℕ) (d : Security) → Distinct ss → j < length ss → k < length ss → j ≢ k →
