@@ -3,8 +3,8 @@ ghost use Rattle.std.specs.Prelude.{◌≡◌};
 ghost use Rattle.book_tests.specs.Holding.{open_number};
 
 use crate::calls::Call::*;
-use crate::calls::Seen::{Amount, Count, Groups, NoCase, NoRow, Paid};
-use crate::calls::{Answer, Call, line};
+use crate::calls::Seen::{Amount, Count, Groups, Member, NoCase, NoRow, Paid};
+use crate::calls::{Answer, Call};
 use book::{Book, Case};
 use houses::House;
 
@@ -13,7 +13,10 @@ fn see<C: House>(book: &mut Book<C>, call: Call) -> Answer
     ensures { book.new.case ≡ book.old.case }
 {
     Ok(match call {
-        Row(place) => line(book.rows().get(place)),
+        Row(place) => match book.rows().get(place) {
+            Some(row) => Member(*row),
+            None => NoRow,
+        },
         Rows => Count(book.rows().len()),
         Shares => Amount(book.shares()),
         Balance(account) => Amount(book.balance(account)?),
@@ -27,7 +30,7 @@ pub(crate) fn plain<C: House>(book: &mut Book<C>, call: Call) -> Answer
 {
     Ok(match call {
         Join(code) => Amount(book.join(code)?),
-        Update(code, lists) => Amount(book.update(code, lists.securities(), lists.trades())?),
+        Update(code, lists) => Amount(book.update(code, lists.securities, lists.trades)?),
         Regulate(code) => {
             let (inward, out) = book.regulate(code)?;
             Paid(inward, out)
@@ -70,8 +73,11 @@ const SIGHTS: [Call; 13] = [
     Balance(14),
 ];
 
+// What was seen of each.
+pub(crate) type View = [Answer; 13];
+
 // A `for`, since no clause of `map` says what its closure leaves of the book.
-pub(crate) fn look<C: House>(book: &mut Book<C>) -> [Answer; 13]
+pub(crate) fn look<C: House>(book: &mut Book<C>) -> View
     ensures { book.new.case ≡ book.old.case }
 {
     let mut seen = [Ok(NoRow); 13];
@@ -81,14 +87,15 @@ pub(crate) fn look<C: House>(book: &mut Book<C>) -> [Answer; 13]
     seen
 }
 
-// Whether the answer is the due one, and a refusal left all that can be seen as it was.
-pub(crate) fn is_due<C: House>(
+// The answer, if it is not the due one, or if it is a refusal after which anything that can be seen differs.
+pub(crate) fn wrong<C: House>(
     book: &mut Book<C>,
-    before: [Answer; 13],
+    before: View,
     answer: Answer,
     due: Answer,
-) -> bool
+) -> Option<Answer>
     ensures { book.new.case ≡ book.old.case }
 {
-    answer == due && (answer.is_ok() || look(book) == before)
+    let right = answer == due && (answer.is_ok() || look(book) == before);
+    (!right).then_some(answer)
 }

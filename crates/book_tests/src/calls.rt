@@ -1,6 +1,6 @@
 // What is asked of a book, and what it answers.
 use crate::lists::Lists;
-use book::{Row as Line, Standing};
+use book::Row;
 use division::Refusal;
 
 // The ten calls, where the case of a use, a recovery or a close is the one that is held, and what can be looked at.
@@ -35,8 +35,7 @@ pub(crate) enum Seen {
     Number(u16),
     // how many rows
     Count(usize),
-    // code, standing, base, reserve, required, charged
-    Is(u16, Standing, u64, u64, u64, u64),
+    Member(Row),
     NoRow,
     // the call is for a case, and none is held
     NoCase,
@@ -66,16 +65,18 @@ macro_rules! refusal {
 
 pub(crate) use refusal;
 
-pub(crate) fn line(row: Option<&Line>) -> Seen {
-    match row {
-        Some(row) => Seen::Is(
-            row.code,
-            row.standing,
-            row.base,
-            row.reserve,
-            row.required,
-            row.charged,
-        ),
-        None => Seen::NoRow,
-    }
+// The answer that is the row of a member, by its fields in their order: one line of a table.
+macro_rules! row {
+    ($code:expr, $standing:expr, $base:expr, $reserve:expr, $required:expr, $charged:expr) => {
+        Ok($crate::calls::Seen::Member(book::Row {
+            code: $code,
+            standing: $standing,
+            base: $base,
+            reserve: $reserve,
+            required: $required,
+            charged: $charged,
+        }))
+    };
 }
+
+pub(crate) use row;

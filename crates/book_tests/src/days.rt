@@ -1,7 +1,7 @@
 // Days over houses that are not ready, and a long one.
 use crate::calls::Call::*;
 use crate::calls::Seen::*;
-use crate::calls::{Step, refusal};
+use crate::calls::{Step, refusal, row};
 use crate::cases::end;
 use crate::lists::Lists;
 use crate::making::{list, over_table, table};
@@ -33,7 +33,7 @@ const FILLED_UP: &[Step] = &[
     (Transfer(11, 11, 1), Err(refusal!(22, House))),
     (Transfer(13, 14, 1), Err(refusal!(51, House))),
     (Regulate(11), Ok(Paid(0, 0))),
-    (Update(11, Lists::Rising), Ok(Amount(5_950_000))),
+    (Update(11, Lists::RISING), Ok(Amount(5_950_000))),
     (Regulate(11), Err(refusal!(51, House))),
     (Leave(11), Err(refusal!(36, Book))),
     (Close, Ok(Number(1))),
@@ -42,7 +42,7 @@ const FILLED_UP: &[Step] = &[
     (OpenCase(11), Ok(Number(2))),
     (Close, Ok(Number(2))),
     (Rows, Ok(Count(1))),
-    (Row(0), Ok(Is(11, Barred, 2_000_000, 0, 5_950_000, 0))),
+    (Row(0), row!(11, Barred, 2_000_000, 0, 5_950_000, 0)),
     (Balance(0), Ok(Amount(2_000_000))),
     (Balance(1), Ok(Amount(2_000_000))),
     (Balance(11), Ok(Amount(0))),
@@ -52,7 +52,7 @@ const FILLED_UP: &[Step] = &[
 #[test]
 fn a_list_fills_up(rt: HostRuntime) -> Result<(), Fail> {
     let accounts = [(0, 0), (1, 0), (10, 2_000_000), (11, 2_000_000), (12, 0)];
-    over(&rt, rt.alloc(), list(rt.alloc(), &accounts, 8)?, FILLED_UP)
+    over(&rt, list(rt.alloc(), &accounts, 8)?, FILLED_UP)
 }
 
 const NEVER_READY: &[Step] = &[
@@ -63,7 +63,7 @@ const NEVER_READY: &[Step] = &[
     (Transfer(10, 10, 1), Err(refusal!(22, House))),
     (Transfer(10, 1, 1), Err(refusal!(51, House))),
     (Income(1), Err(refusal!(40, Book))),
-    (Update(10, Lists::Idle), Err(refusal!(31, Book))),
+    (Update(10, Lists::IDLE), Err(refusal!(31, Book))),
     (Regulate(10), Err(refusal!(31, Book))),
     (OpenCase(10), Err(refusal!(31, Book))),
     (Leave(10), Err(refusal!(31, Book))),
@@ -75,18 +75,8 @@ const NEVER_READY: &[Step] = &[
 #[test]
 fn a_house_may_never_be_ready(rt: HostRuntime) -> Result<(), Fail> {
     let accounts = [(0, 0), (1, 0), (10, 2_000_000)];
-    over(
-        &rt,
-        rt.alloc(),
-        Shut(table(rt.alloc(), &accounts)?),
-        NEVER_READY,
-    )?;
-    over(
-        &rt,
-        rt.alloc(),
-        list(rt.alloc(), &accounts, 3)?,
-        NEVER_READY,
-    )
+    over(&rt, Shut(table(rt.alloc(), &accounts)?), NEVER_READY)?;
+    over(&rt, list(rt.alloc(), &accounts, 3)?, NEVER_READY)
 }
 
 fn open_and_close<C: House>(book: &mut Book<C>, code: u64) -> Result<u16, Refusal> {

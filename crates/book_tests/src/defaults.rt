@@ -1,7 +1,7 @@
 // Cases, uses and recoveries.
 use crate::calls::Call::*;
 use crate::calls::Seen::*;
-use crate::calls::{Step, refusal};
+use crate::calls::{Step, refusal, row};
 use crate::lists::Lists;
 use crate::making::{FOUR, MOST, over_table};
 use crate::playing::{on_both, plays};
@@ -20,58 +20,49 @@ const EXAMPLE: &[Step] = &[
     (Income(100), Ok(Amount(100))),
     (OpenCase(10), Ok(Number(1))),
     (Use(5_000_000), Ok(Groups(2_000_000, 25, 2_999_975, 0))),
-    (Row(0), Ok(Is(10, Defaulting, 0, 0, 2_000_000, 2_000_025))),
-    (
-        Row(1),
-        Ok(Is(11, Active, 1_000_009, 25, 2_000_000, 999_991)),
-    ),
-    (
-        Row(2),
-        Ok(Is(12, Active, 1_000_008, 25, 2_000_000, 999_992)),
-    ),
-    (
-        Row(3),
-        Ok(Is(13, Active, 1_000_008, 25, 2_000_000, 999_992)),
-    ),
+    (Row(0), row!(10, Defaulting, 0, 0, 2_000_000, 2_000_025)),
+    (Row(1), row!(11, Active, 1_000_009, 25, 2_000_000, 999_991)),
+    (Row(2), row!(12, Active, 1_000_008, 25, 2_000_000, 999_992)),
+    (Row(3), row!(13, Active, 1_000_008, 25, 2_000_000, 999_992)),
     (Balance(0), Ok(Amount(3_000_100))),
     (Balance(1), Ok(Amount(5_000_000))),
     (Recover(1_000_000), Ok(Amount(1_000_000))),
     (
         Row(0),
-        Ok(Is(10, Defaulting, 0, 400_005, 2_000_000, 2_000_025)),
+        row!(10, Defaulting, 0, 400_005, 2_000_000, 2_000_025),
     ),
     (
         Row(1),
-        Ok(Is(11, Active, 1_000_009, 200_023, 2_000_000, 999_991)),
+        row!(11, Active, 1_000_009, 200_023, 2_000_000, 999_991),
     ),
     (
         Row(2),
-        Ok(Is(12, Active, 1_000_008, 200_023, 2_000_000, 999_992)),
+        row!(12, Active, 1_000_008, 200_023, 2_000_000, 999_992),
     ),
     (
         Row(3),
-        Ok(Is(13, Active, 1_000_008, 200_024, 2_000_000, 999_992)),
+        row!(13, Active, 1_000_008, 200_024, 2_000_000, 999_992),
     ),
     (Balance(0), Ok(Amount(4_000_100))),
     (Balance(1), Ok(Amount(4_000_000))),
     (Regulate(11), Ok(Paid(999_991, 0))),
     (
         Row(1),
-        Ok(Is(11, Active, 2_000_000, 200_023, 2_000_000, 999_991)),
+        row!(11, Active, 2_000_000, 200_023, 2_000_000, 999_991),
     ),
     (Shares, Ok(Amount(5_000_091))),
     (Balance(0), Ok(Amount(5_000_091))),
     (Balance(11), Ok(Amount(9))),
     (Close, Ok(Number(1))),
-    (Row(0), Ok(Is(10, Barred, 0, 400_005, 2_000_000, 0))),
-    (Row(1), Ok(Is(11, Active, 2_000_000, 200_023, 2_000_000, 0))),
-    (Row(2), Ok(Is(12, Active, 1_000_008, 200_023, 2_000_000, 0))),
-    (Row(3), Ok(Is(13, Active, 1_000_008, 200_024, 2_000_000, 0))),
+    (Row(0), row!(10, Barred, 0, 400_005, 2_000_000, 0)),
+    (Row(1), row!(11, Active, 2_000_000, 200_023, 2_000_000, 0)),
+    (Row(2), row!(12, Active, 1_000_008, 200_023, 2_000_000, 0)),
+    (Row(3), row!(13, Active, 1_000_008, 200_024, 2_000_000, 0)),
 ];
 
 #[test]
 fn the_worked_example(rt: HostRuntime) -> Result<(), Fail> {
-    on_both(&rt, rt.alloc(), FOUR, EXAMPLE)
+    on_both(&rt, FOUR, EXAMPLE)
 }
 
 const NUMBERS: &[Step] = &[
@@ -80,7 +71,7 @@ const NUMBERS: &[Step] = &[
     (OpenCase(9), Err(refusal!(11, Book))),
     (OpenCase(14), Err(refusal!(31, Book))),
     (OpenCase(10), Ok(Number(1))),
-    (Row(0), Ok(Is(10, Defaulting, 2_000_000, 0, 2_000_000, 0))),
+    (Row(0), row!(10, Defaulting, 2_000_000, 0, 2_000_000, 0)),
     (OpenCase(9), Err(refusal!(11, Book))),
     (OpenCase(14), Err(refusal!(31, Book))),
     (OpenCase(10), Err(refusal!(36, Book))),
@@ -90,13 +81,13 @@ const NUMBERS: &[Step] = &[
     (OpenCase(11), Ok(Number(2))),
     (OpenCase(10), Err(refusal!(36, Book))),
     (Close, Ok(Number(2))),
-    (Row(0), Ok(Is(10, Barred, 2_000_000, 0, 2_000_000, 0))),
-    (Row(1), Ok(Is(11, Barred, 2_000_000, 0, 2_000_000, 0))),
+    (Row(0), row!(10, Barred, 2_000_000, 0, 2_000_000, 0)),
+    (Row(1), row!(11, Barred, 2_000_000, 0, 2_000_000, 0)),
 ];
 
 #[test]
 fn cases_have_numbers_in_order(rt: HostRuntime) -> Result<(), Fail> {
-    on_both(&rt, rt.alloc(), FOUR, NUMBERS)
+    on_both(&rt, FOUR, NUMBERS)
 }
 
 const BARRED: &[Step] = &[
@@ -106,27 +97,27 @@ const BARRED: &[Step] = &[
     (Join(13), Ok(Amount(2_000_000))),
     (OpenCase(10), Ok(Number(1))),
     (Join(10), Err(refusal!(32, Book))),
-    (Update(10, Lists::Idle), Err(refusal!(35, Book))),
+    (Update(10, Lists::IDLE), Err(refusal!(35, Book))),
     (Regulate(10), Err(refusal!(35, Book))),
     (Leave(10), Err(refusal!(36, Book))),
     (Leave(12), Err(refusal!(36, Book))),
     (Leave(14), Err(refusal!(31, Book))),
     (Close, Ok(Number(1))),
     (Join(10), Err(refusal!(32, Book))),
-    (Update(10, Lists::Idle), Err(refusal!(35, Book))),
+    (Update(10, Lists::IDLE), Err(refusal!(35, Book))),
     (Regulate(10), Err(refusal!(35, Book))),
     (Income(100), Ok(Amount(100))),
-    (Row(0), Ok(Is(10, Barred, 2_000_000, 25, 2_000_000, 0))),
+    (Row(0), row!(10, Barred, 2_000_000, 25, 2_000_000, 0)),
     (OpenCase(11), Ok(Number(2))),
     (Use(2_000_028), Ok(Groups(2_000_000, 25, 3, 0))),
-    (Row(0), Ok(Is(10, Barred, 1_999_999, 25, 2_000_000, 1))),
-    (Row(1), Ok(Is(11, Defaulting, 0, 0, 2_000_000, 2_000_025))),
-    (Row(2), Ok(Is(12, Active, 1_999_999, 25, 2_000_000, 1))),
+    (Row(0), row!(10, Barred, 1_999_999, 25, 2_000_000, 1)),
+    (Row(1), row!(11, Defaulting, 0, 0, 2_000_000, 2_000_025)),
+    (Row(2), row!(12, Active, 1_999_999, 25, 2_000_000, 1)),
     (Close, Ok(Number(2))),
     (Leave(10), Ok(Amount(2_000_024))),
     (Join(10), Ok(Amount(2_000_000))),
-    (Row(3), Ok(Is(10, Active, 2_000_000, 0, 2_000_000, 0))),
-    (Update(10, Lists::Idle), Ok(Amount(2_000_000))),
+    (Row(3), row!(10, Active, 2_000_000, 0, 2_000_000, 0)),
+    (Update(10, Lists::IDLE), Ok(Amount(2_000_000))),
     (Regulate(10), Ok(Paid(0, 0))),
     (Leave(11), Ok(Amount(0))),
     (OpenCase(10), Ok(Number(3))),
@@ -135,26 +126,26 @@ const BARRED: &[Step] = &[
 
 #[test]
 fn a_case_bars_until_the_member_leaves(rt: HostRuntime) -> Result<(), Fail> {
-    on_both(&rt, rt.alloc(), FOUR, BARRED)
+    on_both(&rt, FOUR, BARRED)
 }
 
 const NOTHING_OUT: &[Step] = &[
     (Join(10), Ok(Amount(2_000_000))),
     (Join(11), Ok(Amount(2_000_000))),
-    (Update(10, Lists::Rising), Ok(Amount(5_950_000))),
-    (Update(11, Lists::Rising), Ok(Amount(5_950_000))),
+    (Update(10, Lists::RISING), Ok(Amount(5_950_000))),
+    (Update(11, Lists::RISING), Ok(Amount(5_950_000))),
     (Regulate(10), Ok(Paid(3_950_000, 0))),
     (Regulate(11), Ok(Paid(3_950_000, 0))),
-    (Update(10, Lists::Idle), Ok(Amount(2_000_000))),
+    (Update(10, Lists::IDLE), Ok(Amount(2_000_000))),
     (OpenCase(10), Ok(Number(1))),
     (Regulate(10), Err(refusal!(35, Book))),
-    (Update(11, Lists::Idle), Ok(Amount(2_000_000))),
+    (Update(11, Lists::IDLE), Ok(Amount(2_000_000))),
     (Regulate(11), Err(refusal!(36, Book))),
     (Leave(11), Err(refusal!(36, Book))),
     (Close, Ok(Number(1))),
     (Regulate(11), Ok(Paid(0, 3_950_000))),
-    (Row(0), Ok(Is(10, Barred, 5_950_000, 0, 2_000_000, 0))),
-    (Row(1), Ok(Is(11, Active, 2_000_000, 0, 2_000_000, 0))),
+    (Row(0), row!(10, Barred, 5_950_000, 0, 2_000_000, 0)),
+    (Row(1), row!(11, Active, 2_000_000, 0, 2_000_000, 0)),
     (Balance(0), Ok(Amount(7_950_000))),
     (Balance(11), Ok(Amount(4_000_000))),
 ];
@@ -163,7 +154,6 @@ const NOTHING_OUT: &[Step] = &[
 fn nothing_is_paid_out_during_a_case(rt: HostRuntime) -> Result<(), Fail> {
     on_both(
         &rt,
-        rt.alloc(),
         &[(0, 0), (10, 6_000_000), (11, 6_000_000)],
         NOTHING_OUT,
     )
@@ -183,8 +173,8 @@ const USES: &[Step] = &[
     (Use(8_000_101), Err(refusal!(38, Book))),
     (Use(8_000_100), Ok(Groups(2_000_000, 25, 6_000_000, 75))),
     (Shares, Ok(Amount(0))),
-    (Row(0), Ok(Is(10, Defaulting, 0, 0, 2_000_000, 2_000_025))),
-    (Row(3), Ok(Is(13, Active, 0, 0, 2_000_000, 2_000_025))),
+    (Row(0), row!(10, Defaulting, 0, 0, 2_000_000, 2_000_025)),
+    (Row(3), row!(13, Active, 0, 0, 2_000_000, 2_000_025)),
     (Balance(0), Ok(Amount(0))),
     (Balance(1), Ok(Amount(8_000_100))),
     (Use(1), Err(refusal!(38, Book))),
@@ -194,19 +184,16 @@ const USES: &[Step] = &[
     (Income(1), Err(refusal!(40, Book))),
     (
         Row(0),
-        Ok(Is(10, Defaulting, 0, 2_000_025, 2_000_000, 2_000_025)),
+        row!(10, Defaulting, 0, 2_000_025, 2_000_000, 2_000_025),
     ),
-    (
-        Row(3),
-        Ok(Is(13, Active, 0, 2_000_025, 2_000_000, 2_000_025)),
-    ),
+    (Row(3), row!(13, Active, 0, 2_000_025, 2_000_000, 2_000_025)),
     (Close, Ok(Number(1))),
     (Shares, Ok(Amount(8_000_100))),
 ];
 
 #[test]
 fn a_use_takes_up_to_all_shares(rt: HostRuntime) -> Result<(), Fail> {
-    on_both(&rt, rt.alloc(), FOUR, USES)
+    on_both(&rt, FOUR, USES)
 }
 
 const NO_SETTLEMENT: &[Step] = &[
@@ -216,7 +203,7 @@ const NO_SETTLEMENT: &[Step] = &[
     (Use(2_000_000), Err(refusal!(52, House))),
     (Recover(1), Err(refusal!(41, Book))),
     (Close, Ok(Number(1))),
-    (Row(0), Ok(Is(10, Barred, 2_000_000, 0, 2_000_000, 0))),
+    (Row(0), row!(10, Barred, 2_000_000, 0, 2_000_000, 0)),
 ];
 
 const FULL_SETTLEMENT: &[Step] = &[
@@ -226,24 +213,23 @@ const FULL_SETTLEMENT: &[Step] = &[
     (Use(11), Err(refusal!(54, House))),
     (Use(10), Ok(Groups(10, 0, 0, 0))),
     (Use(1), Err(refusal!(54, House))),
-    (Row(0), Ok(Is(10, Defaulting, 1_999_990, 0, 2_000_000, 10))),
+    (Row(0), row!(10, Defaulting, 1_999_990, 0, 2_000_000, 10)),
     (Recover(11), Err(refusal!(41, Book))),
     (Recover(10), Ok(Amount(10))),
     (Recover(1), Err(refusal!(41, Book))),
     (Use(10), Ok(Groups(10, 0, 0, 0))),
-    (Row(0), Ok(Is(10, Defaulting, 1_999_980, 10, 2_000_000, 20))),
+    (Row(0), row!(10, Defaulting, 1_999_980, 10, 2_000_000, 20)),
 ];
 
 #[test]
 fn a_use_wants_a_settlement_account(rt: HostRuntime) -> Result<(), Fail> {
-    on_both(&rt, rt.alloc(), &[(0, 0), (10, 2_000_000)], NO_SETTLEMENT)
+    on_both(&rt, &[(0, 0), (10, 2_000_000)], NO_SETTLEMENT)
 }
 
 #[test]
 fn the_settlement_account_has_a_limit(rt: HostRuntime) -> Result<(), Fail> {
     on_both(
         &rt,
-        rt.alloc(),
         &[(0, 0), (1, MOST - 10), (10, 2_000_000)],
         FULL_SETTLEMENT,
     )
@@ -272,15 +258,12 @@ const CHARGED_TO_THE_LIMIT: &[Step] = &[
     (Transfer(14, 1, 996_000_000), Ok(Amount(996_000_000))),
     (Balance(1), Ok(Amount(MOST))),
     (Use(1), Err(refusal!(39, Book))),
-    (
-        Row(0),
-        Ok(Is(10, Defaulting, 0, 0, 2_000_000, 3_000_000_000)),
-    ),
+    (Row(0), row!(10, Defaulting, 0, 0, 2_000_000, 3_000_000_000)),
     (
         Row(1),
-        Ok(Is(11, Active, 0, 1_002_000_000, 2_000_000, 998_000_000)),
+        row!(11, Active, 0, 1_002_000_000, 2_000_000, 998_000_000),
     ),
-    (Row(2), Ok(Is(12, Active, 0, 0, 2_000_000, 2_000_000))),
+    (Row(2), row!(12, Active, 0, 0, 2_000_000, 2_000_000)),
     (Recover(3_000_000_001), Err(refusal!(41, Book))),
     (Recover(3_000_000_000), Err(refusal!(34, Book))),
     (Recover(2_998_000_001), Err(refusal!(34, Book))),
@@ -289,9 +272,9 @@ const CHARGED_TO_THE_LIMIT: &[Step] = &[
     (Recover(2_000_000), Err(refusal!(34, Book))),
     (Use(1), Err(refusal!(39, Book))),
     (Close, Ok(Number(1))),
-    (Row(0), Ok(Is(10, Barred, 0, 2_248_500_000, 2_000_000, 0))),
-    (Row(1), Ok(Is(11, Active, 0, 1_750_001_000, 2_000_000, 0))),
-    (Row(2), Ok(Is(12, Active, 0, 1_499_000, 2_000_000, 0))),
+    (Row(0), row!(10, Barred, 0, 2_248_500_000, 2_000_000, 0)),
+    (Row(1), row!(11, Active, 0, 1_750_001_000, 2_000_000, 0)),
+    (Row(2), row!(12, Active, 0, 1_499_000, 2_000_000, 0)),
     (Shares, Ok(Amount(4_000_000_000))),
 ];
 
@@ -305,7 +288,7 @@ fn a_case_is_charged_up_to_the_limit(rt: HostRuntime) -> Result<(), Fail> {
         (12, 2_000_000),
         (14, 996_000_000),
     ];
-    on_both(&rt, rt.alloc(), &accounts, CHARGED_TO_THE_LIMIT)
+    on_both(&rt, &accounts, CHARGED_TO_THE_LIMIT)
 }
 
 const RECOVERIES: &[Step] = &[
@@ -323,11 +306,11 @@ const RECOVERIES: &[Step] = &[
     (Recover(3_000_000), Ok(Amount(3_000_000))),
     (
         Row(0),
-        Ok(Is(10, Defaulting, 0, 2_000_000, 2_000_000, 2_000_000)),
+        row!(10, Defaulting, 0, 2_000_000, 2_000_000, 2_000_000),
     ),
     (
         Row(1),
-        Ok(Is(11, Active, 1_000_000, 1_000_000, 2_000_000, 1_000_000)),
+        row!(11, Active, 1_000_000, 1_000_000, 2_000_000, 1_000_000),
     ),
     (Recover(1), Err(refusal!(41, Book))),
     (Use(1), Ok(Groups(0, 1, 0, 0))),
@@ -337,10 +320,10 @@ const RECOVERIES: &[Step] = &[
     (Recover(1), Err(refusal!(34, Book))),
     (Close, Ok(Number(1))),
     (Recover(1), Ok(NoCase)),
-    (Row(0), Ok(Is(10, Barred, 0, 1_999_999, 2_000_000, 0))),
+    (Row(0), row!(10, Barred, 0, 1_999_999, 2_000_000, 0)),
     (
         Row(1),
-        Ok(Is(11, Active, 1_000_000, 3_997_000_001, 2_000_000, 0)),
+        row!(11, Active, 1_000_000, 3_997_000_001, 2_000_000, 0),
     ),
 ];
 
@@ -353,7 +336,7 @@ fn recoveries_that_are_refused(rt: HostRuntime) -> Result<(), Fail> {
         (11, 2_000_000),
         (12, 0),
     ];
-    on_both(&rt, rt.alloc(), &accounts, RECOVERIES)
+    on_both(&rt, &accounts, RECOVERIES)
 }
 
 const NEWCOMERS: &[Step] = &[
@@ -363,24 +346,18 @@ const NEWCOMERS: &[Step] = &[
     (Use(2_000_000), Ok(Groups(2_000_000, 0, 0, 0))),
     (Join(12), Ok(Amount(2_000_000))),
     (Use(1_000_000), Ok(Groups(0, 0, 1_000_000, 0))),
-    (Row(1), Ok(Is(11, Active, 1_500_000, 0, 2_000_000, 500_000))),
-    (Row(2), Ok(Is(12, Active, 1_500_000, 0, 2_000_000, 500_000))),
+    (Row(1), row!(11, Active, 1_500_000, 0, 2_000_000, 500_000)),
+    (Row(2), row!(12, Active, 1_500_000, 0, 2_000_000, 500_000)),
     (Join(13), Ok(Amount(2_000_000))),
     (Recover(300), Ok(Amount(300))),
     (Recover(300), Ok(Amount(300))),
-    (Row(0), Ok(Is(10, Defaulting, 0, 400, 2_000_000, 2_000_000))),
-    (
-        Row(1),
-        Ok(Is(11, Active, 1_500_000, 100, 2_000_000, 500_000)),
-    ),
-    (
-        Row(2),
-        Ok(Is(12, Active, 1_500_000, 100, 2_000_000, 500_000)),
-    ),
-    (Row(3), Ok(Is(13, Active, 2_000_000, 0, 2_000_000, 0))),
+    (Row(0), row!(10, Defaulting, 0, 400, 2_000_000, 2_000_000)),
+    (Row(1), row!(11, Active, 1_500_000, 100, 2_000_000, 500_000)),
+    (Row(2), row!(12, Active, 1_500_000, 100, 2_000_000, 500_000)),
+    (Row(3), row!(13, Active, 2_000_000, 0, 2_000_000, 0)),
     (Close, Ok(Number(1))),
-    (Row(0), Ok(Is(10, Barred, 0, 400, 2_000_000, 0))),
-    (Row(2), Ok(Is(12, Active, 1_500_000, 100, 2_000_000, 0))),
+    (Row(0), row!(10, Barred, 0, 400, 2_000_000, 0)),
+    (Row(2), row!(12, Active, 1_500_000, 100, 2_000_000, 0)),
     (OpenCase(12), Ok(Number(2))),
     (Recover(1), Err(refusal!(41, Book))),
     (Use(1_500_101), Ok(Groups(1_500_000, 100, 1, 0))),
@@ -389,7 +366,7 @@ const NEWCOMERS: &[Step] = &[
 
 #[test]
 fn newcomers_are_charged_too(rt: HostRuntime) -> Result<(), Fail> {
-    on_both(&rt, rt.alloc(), FOUR, NEWCOMERS)
+    on_both(&rt, FOUR, NEWCOMERS)
 }
 
 const TWO: &[Step] = &[
@@ -408,13 +385,13 @@ const NOT_OPEN: &[Step] = &[
 ];
 
 const MINE: &[Step] = &[
-    (Row(0), Ok(Is(10, Barred, 2_000_000, 0, 2_000_000, 0))),
-    (Row(1), Ok(Is(11, Barred, 2_000_000, 0, 2_000_000, 0))),
+    (Row(0), row!(10, Barred, 2_000_000, 0, 2_000_000, 0)),
+    (Row(1), row!(11, Barred, 2_000_000, 0, 2_000_000, 0)),
 ];
 
 const OTHERS: &[Step] = &[
-    (Row(0), Ok(Is(10, Active, 2_000_000, 0, 2_000_000, 0))),
-    (Row(1), Ok(Is(11, Barred, 2_000_000, 0, 2_000_000, 0))),
+    (Row(0), row!(10, Active, 2_000_000, 0, 2_000_000, 0)),
+    (Row(1), row!(11, Barred, 2_000_000, 0, 2_000_000, 0)),
 ];
 
 fn exchange<C: House>(rt: &impl Abort, book: &mut Book<C>, other: &mut Book<C>) {

@@ -1,7 +1,7 @@
 // A book whose calls are answered, and the case that it hands out is held.
 ghost use Rattle.book_tests.specs.Holding.{Holding};
 
-use crate::asking::{is_due, look, plain, shown};
+use crate::asking::{look, plain, shown, wrong};
 use crate::calls::Call::{Close, OpenCase};
 use crate::calls::Seen::{NoCase, Number};
 use crate::calls::{Answer, Call, Step};
@@ -54,11 +54,7 @@ impl<'a, C: House> Desk<'a, C> {
         let (call, due) = *step;
         let before = look(self.book);
         let answer = self.ask(call);
-        if is_due(self.book, before, answer, due) {
-            None
-        } else {
-            Some(answer)
-        }
+        wrong(self.book, before, answer, due)
     }
 
     // Ends the case that is held, if one is, and hands the book back.

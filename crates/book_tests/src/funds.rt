@@ -1,16 +1,13 @@
 // The opening, incomes, and the limits of the fund.
 use crate::calls::Call::*;
 use crate::calls::Seen::*;
-use crate::calls::{Step, refusal};
-use crate::cases::told;
+use crate::calls::{Step, refusal, row};
 use crate::lists::Lists;
-use crate::making::{Account, FOUR, list, opened, table};
-use crate::playing::{on_both, plays};
+use crate::making::{FOUR, list, opened, opens, table, with_members};
+use crate::playing::{join, on_both, plays};
 use book::Book;
 use book::Standing::*;
-use division::Refusal;
 use houses::House;
-use std::alloc::{AllocError, Global};
 use std::process::Abort;
 use std::test::Fail;
 
@@ -29,18 +26,12 @@ const OPENING: &[Step] = &[
     (Income(3_998_000_000), Err(refusal!(52, House))),
 ];
 
-// Whether a book over a table house with the accounts can be opened.
-fn opens(heap: Global, accounts: &[Account]) -> Result<Result<(), Refusal>, Fail> {
-    let mut house = table(heap, accounts)?;
-    Ok(told(Book::check(&mut house)))
-}
-
 #[test]
 fn a_book_opens_over_an_empty_fund(rt: HostRuntime) -> Result<(), Fail> {
     assert_eq!(rt; opens(rt.alloc(), &[(1, 0)])?, Err(refusal!(52, House)));
     assert_eq!(rt; opens(rt.alloc(), &[(0, 1)])?, Err(refusal!(43, Book)));
     assert_eq!(rt; opens(rt.alloc(), &[(0, 0)])?, Ok(()));
-    on_both(&rt, rt.alloc(), &[(0, 0), (10, 2_000_000)], OPENING)
+    on_both(&rt, &[(0, 0), (10, 2_000_000)], OPENING)
 }
 
 const INCOMES: &[Step] = &[
@@ -50,10 +41,10 @@ const INCOMES: &[Step] = &[
     (Join(13), Ok(Amount(2_000_000))),
     (Income(101), Err(refusal!(53, House))),
     (Income(100), Ok(Amount(100))),
-    (Row(0), Ok(Is(10, Active, 2_000_000, 25, 2_000_000, 0))),
-    (Row(1), Ok(Is(11, Active, 2_000_000, 25, 2_000_000, 0))),
-    (Row(2), Ok(Is(12, Active, 2_000_000, 25, 2_000_000, 0))),
-    (Row(3), Ok(Is(13, Active, 2_000_000, 25, 2_000_000, 0))),
+    (Row(0), row!(10, Active, 2_000_000, 25, 2_000_000, 0)),
+    (Row(1), row!(11, Active, 2_000_000, 25, 2_000_000, 0)),
+    (Row(2), row!(12, Active, 2_000_000, 25, 2_000_000, 0)),
+    (Row(3), row!(13, Active, 2_000_000, 25, 2_000_000, 0)),
     (Shares, Ok(Amount(8_000_100))),
     (Balance(0), Ok(Amount(8_000_100))),
     (Balance(1), Ok(Amount(0))),
@@ -63,13 +54,13 @@ const INCOMES: &[Step] = &[
 
 #[test]
 fn income_goes_to_the_reserves(rt: HostRuntime) -> Result<(), Fail> {
-    on_both(&rt, rt.alloc(), FOUR, INCOMES)
+    on_both(&rt, FOUR, INCOMES)
 }
 
 const LIMITS: &[Step] = &[
     (Join(10), Ok(Amount(2_000_000))),
     (Join(11), Ok(Amount(2_000_000))),
-    (Update(10, Lists::Rising), Ok(Amount(5_950_000))),
+    (Update(10, Lists::RISING), Ok(Amount(5_950_000))),
     (Income(3_996_000_001), Err(refusal!(34, Book))),
     (Income(3_996_000_000), Ok(Amount(3_996_000_000))),
     (Shares, Ok(Amount(4_000_000_000))),
@@ -81,11 +72,11 @@ const LIMITS: &[Step] = &[
     (Regulate(11), Ok(Paid(0, 0))),
     (
         Row(0),
-        Ok(Is(10, Active, 2_000_000, 1_998_000_000, 5_950_000, 0)),
+        row!(10, Active, 2_000_000, 1_998_000_000, 5_950_000, 0),
     ),
     (
         Row(1),
-        Ok(Is(11, Active, 2_000_000, 1_998_000_000, 2_000_000, 0)),
+        row!(11, Active, 2_000_000, 1_998_000_000, 2_000_000, 0),
     ),
     (Balance(0), Ok(Amount(4_000_000_000))),
     (Balance(1), Ok(Amount(4_000_000))),
@@ -103,7 +94,7 @@ fn the_fund_has_a_limit(rt: HostRuntime) -> Result<(), Fail> {
         (11, 2_000_000),
         (12, 2_000_000),
     ];
-    on_both(&rt, rt.alloc(), &accounts, LIMITS)
+    on_both(&rt, &accounts, LIMITS)
 }
 
 const ALL_ROWS: &[Step] = &[
@@ -117,39 +108,30 @@ const ALL_ROWS: &[Step] = &[
     (Leave(42), Ok(Amount(62_500_000))),
     (
         Row(31),
-        Ok(Is(41, Active, 2_000_000, 60_500_000, 2_000_000, 0)),
+        row!(41, Active, 2_000_000, 60_500_000, 2_000_000, 0),
     ),
     (
         Row(32),
-        Ok(Is(43, Active, 2_000_000, 60_500_000, 2_000_000, 0)),
+        row!(43, Active, 2_000_000, 60_500_000, 2_000_000, 0),
     ),
     (Join(74), Ok(Amount(2_000_000))),
-    (Row(63), Ok(Is(74, Active, 2_000_000, 0, 2_000_000, 0))),
+    (Row(63), row!(74, Active, 2_000_000, 0, 2_000_000, 0)),
 ];
 
 fn fill<C: House>(rt: &impl Abort, book: &mut Book<C>) {
-    for code in 10..74 {
-        assert!(rt; book.join(code).is_ok());
-    }
+    join(rt, book, 10..74);
     plays(rt, book, ALL_ROWS);
 }
 
-fn crowd<C: House + Drop>(rt: &impl Abort, heap: Global, house: C) -> Result<(), Fail> {
-    let mut book = opened(heap, house)?;
+fn crowd<C: House + Drop>(rt: &(impl Abort + AllocGlobal), house: C) -> Result<(), Fail> {
+    let mut book = opened(rt.alloc(), house)?;
     fill(rt, &mut book);
     Ok(())
 }
 
-fn many(heap: Global) -> Result<Vec<Account>, AllocError> {
-    [(0, 0), (1, 4_000_000_000)]
-        .into_iter()
-        .chain((10..75).map(|code| (code, 2_000_000)))
-        .collect(heap)
-}
-
 #[test]
 fn a_book_has_sixty_four_rows(rt: HostRuntime) -> Result<(), Fail> {
-    let accounts = many(rt.alloc())?;
-    crowd(&rt, rt.alloc(), table(rt.alloc(), &accounts)?)?;
-    crowd(&rt, rt.alloc(), list(rt.alloc(), &accounts, 1_024)?)
+    let accounts = with_members(rt.alloc(), &[(0, 0), (1, 4_000_000_000)])?;
+    crowd(&rt, table(rt.alloc(), &accounts)?)?;
+    crowd(&rt, list(rt.alloc(), &accounts, 1_024)?)
 }

@@ -2,21 +2,9 @@
 use contribution::{Isin, Security, Side, Trade};
 
 #[derive(Clone, Copy)]
-pub(crate) enum Lists {
-    // no trades
-    Idle,
-    // W is 5,950,000
-    Rising,
-    // with something wrong about the second of two
-    MalformedSecurity,
-    NoPrice,
-    ListedTwice,
-    MalformedTrade,
-    NoQuantity,
-    NotListed,
-    TooLarge,
-    // W is 1,100,000,000
-    High,
+pub(crate) struct Lists {
+    pub(crate) securities: &'static [Security],
+    pub(crate) trades: &'static [Trade],
 }
 
 const ISIN: Isin = Isin {
@@ -74,45 +62,77 @@ pub(crate) const BAD_TRADE: Trade = Trade {
 };
 
 impl Lists {
-    pub(crate) fn securities(self) -> &'static [Security] {
-        match self {
-            Lists::MalformedSecurity => &[SHARE, BAD_SECURITY],
-            Lists::NoPrice => &[SHARE, Security { price: 0, ..SHARE }],
-            Lists::ListedTwice => &[SHARE, SHARE],
-            Lists::High => &[RISKY],
-            _ => &[SHARE],
-        }
-    }
+    // no trades
+    pub(crate) const IDLE: Lists = Lists {
+        securities: &[SHARE],
+        trades: &[],
+    };
 
-    pub(crate) fn trades(self) -> &'static [Trade] {
-        match self {
-            Lists::Rising => &[BOUGHT, SOLD],
-            Lists::MalformedTrade => &[BOUGHT, BAD_TRADE],
-            Lists::NoQuantity => &[
-                BOUGHT,
-                Trade {
-                    isin: OTHER,
-                    quantity: 0,
-                    ..BOUGHT
-                },
-            ],
-            Lists::NotListed => &[
-                BOUGHT,
-                Trade {
-                    isin: OTHER,
-                    price: 100_000_000,
-                    ..BOUGHT
-                },
-            ],
-            Lists::TooLarge => &[
-                LARGE,
-                Trade {
-                    price: 1_001,
-                    ..LARGE
-                },
-            ],
-            Lists::High => &[LARGE; 11],
-            _ => &[],
-        }
-    }
+    // W is 5,950,000
+    pub(crate) const RISING: Lists = Lists {
+        trades: &[BOUGHT, SOLD],
+        ..Lists::IDLE
+    };
+
+    // W is 1,100,000,000
+    pub(crate) const HIGH: Lists = Lists {
+        securities: &[RISKY],
+        trades: &[LARGE; 11],
+    };
+
+    // these and the ones below: something is wrong about the second of two
+    pub(crate) const MALFORMED_SECURITY: Lists = Lists {
+        securities: &[SHARE, BAD_SECURITY],
+        ..Lists::IDLE
+    };
+
+    pub(crate) const NO_PRICE: Lists = Lists {
+        securities: &[SHARE, Security { price: 0, ..SHARE }],
+        ..Lists::IDLE
+    };
+
+    pub(crate) const LISTED_TWICE: Lists = Lists {
+        securities: &[SHARE, SHARE],
+        ..Lists::IDLE
+    };
+
+    pub(crate) const MALFORMED_TRADE: Lists = Lists {
+        trades: &[BOUGHT, BAD_TRADE],
+        ..Lists::IDLE
+    };
+
+    pub(crate) const NO_QUANTITY: Lists = Lists {
+        trades: &[
+            BOUGHT,
+            Trade {
+                isin: OTHER,
+                quantity: 0,
+                ..BOUGHT
+            },
+        ],
+        ..Lists::IDLE
+    };
+
+    pub(crate) const NOT_LISTED: Lists = Lists {
+        trades: &[
+            BOUGHT,
+            Trade {
+                isin: OTHER,
+                price: 100_000_000,
+                ..BOUGHT
+            },
+        ],
+        ..Lists::IDLE
+    };
+
+    pub(crate) const TOO_LARGE: Lists = Lists {
+        trades: &[
+            LARGE,
+            Trade {
+                price: 1_001,
+                ..LARGE
+            },
+        ],
+        ..Lists::IDLE
+    };
 }

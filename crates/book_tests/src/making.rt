@@ -1,5 +1,8 @@
 // Houses with some accounts, and books over them.
+use crate::cases::told;
 use book::{Book, ROWS};
+use contribution::MINIMUM;
+use division::Refusal;
 use houses::{House, ListHouse, Opening, TableHouse};
 use std::alloc::{AllocError, Global};
 use std::test::Fail;
@@ -20,6 +23,15 @@ pub(crate) const FOUR: &[Account] = &[
     (13, 2_000_000),
 ];
 
+// These accounts and 65 members' with the minimum each, one more than a book has rows.
+pub(crate) fn with_members(heap: Global, first: &[Account]) -> Result<Vec<Account>, AllocError> {
+    first
+        .iter()
+        .copied()
+        .chain((10..75).map(|code| (code, MINIMUM)))
+        .collect(heap)
+}
+
 fn openings(heap: Global, accounts: &[Account]) -> Result<Vec<Opening>, AllocError> {
     accounts
         .iter()
@@ -39,6 +51,12 @@ pub(crate) fn list(heap: Global, accounts: &[Account], room: usize) -> Result<Li
     ListHouse::check(&openings, room)?;
     let list = Vec::with_capacity(heap, room)?;
     Ok(ListHouse::make(&openings, list, room))
+}
+
+// Whether a book over a table house with the accounts can be opened.
+pub(crate) fn opens(heap: Global, accounts: &[Account]) -> Result<Result<(), Refusal>, Fail> {
+    let mut house = table(heap, accounts)?;
+    Ok(told(Book::check(&mut house)))
 }
 
 pub(crate) fn opened<C: House + Drop>(heap: Global, mut house: C) -> Result<Book<C>, Fail> {

@@ -1,10 +1,12 @@
 // Days that are played from tables.
 use crate::calls::{Step, Wrong};
+use crate::cases::told;
 use crate::desk::Desk;
 use crate::making::{Account, list, opened, table};
 use book::Book;
+use contribution::MINIMUM;
 use houses::House;
-use std::alloc::Global;
+use std::ops::Range;
 use std::process::Abort;
 use std::test::Fail;
 
@@ -23,25 +25,30 @@ pub(crate) fn plays<C: House>(rt: &impl Abort, book: &mut Book<C>, steps: &[Step
     assert_eq!(rt; play(book, steps), None);
 }
 
+// The members with these codes join.
+pub(crate) fn join<C: House>(rt: &impl Abort, book: &mut Book<C>, codes: Range<u64>) {
+    for code in codes {
+        assert_eq!(rt; told(book.join(code)), Ok(MINIMUM));
+    }
+}
+
 // A day over the house.
 pub(crate) fn over<C: House + Drop>(
-    rt: &impl Abort,
-    heap: Global,
+    rt: &(impl Abort + AllocGlobal),
     house: C,
     steps: &[Step],
 ) -> Result<(), Fail> {
-    let mut book = opened(heap, house)?;
+    let mut book = opened(rt.alloc(), house)?;
     plays(rt, &mut book, steps);
     Ok(())
 }
 
 // A day over a table house, and the same over a list house.
 pub(crate) fn on_both(
-    rt: &impl Abort,
-    heap: Global,
+    rt: &(impl Abort + AllocGlobal),
     accounts: &[Account],
     steps: &[Step],
 ) -> Result<(), Fail> {
-    over(rt, heap, table(heap, accounts)?, steps)?;
-    over(rt, heap, list(heap, accounts, 1_024)?, steps)
+    over(rt, table(rt.alloc(), accounts)?, steps)?;
+    over(rt, list(rt.alloc(), accounts, 1_024)?, steps)
 }

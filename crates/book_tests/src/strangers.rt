@@ -2,7 +2,7 @@
 ghost use Rattle.std.specs.Prelude.{◌≡◌};
 ghost use Rattle.book_tests.specs.Holding.{open_number};
 
-use crate::asking::{is_due, look, shown};
+use crate::asking::{look, shown, wrong};
 use crate::calls::{Step, Wrong};
 use crate::cases::{end, end_elsewhere};
 use book::{Book, Case};
@@ -13,10 +13,10 @@ use houses::House;
 fn show<C: House>(book: &mut Book<C>, case: &Case, steps: &[Step]) -> Option<Wrong>
     ensures { open_number book.new.case ≡ open_number book.old.case }
 {
-    for (i, (call, due)) in steps.iter().enumerate() {
+    for (i, &(call, due)) in steps.iter().enumerate() {
         let before = look(book);
-        let answer = shown(book, case, *call);
-        if !is_due(book, before, answer, *due) {
+        let answer = shown(book, case, call);
+        if let Some(answer) = wrong(book, before, answer, due) {
             return Some((i, answer));
         }
     }

@@ -1,22 +1,19 @@
-// The calls one by one: each answer, the rows and the balances. The other tests play such days as tables, over both houses.
+// The calls one by one, asked of the book itself: they stand beside the tables, since what the helpers that play a table overlooked would show here.
 use crate::calls::refusal;
 use crate::cases::{close_elsewhere, told, try_case};
 use crate::lists::{BOUGHT, MALFORMED, SHARE, SOLD};
-use crate::making::{Account, FOUR, over_table, table};
+use crate::making::{FOUR, opens, over_table, with_members};
+use crate::playing::join;
 use book::{Book, Standing};
 use contribution::{MINIMUM, Trade};
 use houses::{House, TableHouse};
-use std::alloc::Global;
-use std::iter;
 use std::process::Abort;
 use std::test::Fail;
 
 // The worked example of the rules: members 10 to 13 join.
-fn four(rt: &impl Abort, heap: Global) -> Result<Book<TableHouse>, Fail> {
-    let mut book = over_table(heap, FOUR)?;
-    for code in 10..14 {
-        assert_eq!(rt; told(book.join(code)), Ok(MINIMUM));
-    }
+fn four(rt: &(impl Abort + AllocGlobal)) -> Result<Book<TableHouse>, Fail> {
+    let mut book = over_table(rt.alloc(), FOUR)?;
+    join(rt, &mut book, 10..14);
     Ok(book)
 }
 
@@ -45,10 +42,8 @@ fn holds<C: House>(rt: &impl Abort, book: &mut Book<C>, balances: &[(u64, u64)])
 
 #[test]
 fn a_book_opens_over_an_empty_fund(rt: HostRuntime) -> Result<(), Fail> {
-    let mut none = table(rt.alloc(), &[(1, 0)])?;
-    assert_eq!(rt; told(Book::check(&mut none)), Err(refusal!(52, House)));
-    let mut full = table(rt.alloc(), &[(0, 1)])?;
-    assert_eq!(rt; told(Book::check(&mut full)), Err(refusal!(43, Book)));
+    assert_eq!(rt; opens(rt.alloc(), &[(1, 0)])?, Err(refusal!(52, House)));
+    assert_eq!(rt; opens(rt.alloc(), &[(0, 1)])?, Err(refusal!(43, Book)));
     let mut book = over_table(rt.alloc(), &[(0, 0)])?;
     shows(&rt, &book, &[]);
     assert_eq!(rt; book.shares(), 0);
@@ -61,7 +56,7 @@ fn a_book_opens_over_an_empty_fund(rt: HostRuntime) -> Result<(), Fail> {
 
 #[test]
 fn income_goes_to_the_reserves(rt: HostRuntime) -> Result<(), Fail> {
-    let mut book = four(&rt, rt.alloc())?;
+    let mut book = four(&rt)?;
     assert_eq!(rt; told(book.income(100)), Ok(100));
     let lines = [
         (10, MINIMUM, 25, MINIMUM),
@@ -194,7 +189,7 @@ fn updates_that_are_refused(rt: HostRuntime) -> Result<(), Fail> {
 
 #[test]
 fn a_member_leaves_and_joins_again(rt: HostRuntime) -> Result<(), Fail> {
-    let mut book = four(&rt, rt.alloc())?;
+    let mut book = four(&rt)?;
     assert_eq!(rt; told(book.income(100)), Ok(100));
     assert_eq!(rt; told(book.leave(11)), Ok(2_000_025));
     assert_eq!(rt; told(book.leave(11)), Err(refusal!(31, Book)));
@@ -246,13 +241,9 @@ fn other_transfers_leave_the_fund_alone(rt: HostRuntime) -> Result<(), Fail> {
 
 #[test]
 fn a_book_has_sixty_four_rows(rt: HostRuntime) -> Result<(), Fail> {
-    let accounts: Vec<Account> = iter::once((0, 0))
-        .chain((10..75).map(|code| (code, MINIMUM)))
-        .collect(rt.alloc())?;
+    let accounts = with_members(rt.alloc(), &[(0, 0)])?;
     let mut book = over_table(rt.alloc(), &accounts)?;
-    for code in 10..74 {
-        assert_eq!(rt; told(book.join(code)), Ok(MINIMUM));
-    }
+    join(&rt, &mut book, 10..74);
     assert_eq!(rt; told(book.join(10)), Err(refusal!(32, Book)));
     assert_eq!(rt; told(book.join(74)), Err(refusal!(33, Book)));
     assert_eq!(rt; told(book.leave(42)), Ok(MINIMUM));
@@ -263,7 +254,7 @@ fn a_book_has_sixty_four_rows(rt: HostRuntime) -> Result<(), Fail> {
 
 #[test]
 fn cases_have_numbers_in_order(rt: HostRuntime) -> Result<(), Fail> {
-    let mut book = four(&rt, rt.alloc())?;
+    let mut book = four(&rt)?;
     let first = try_case(&mut book, 10, 10)?;
     assert_eq!(rt; (first.number, first.closed), (1, 1));
     assert_eq!(rt; first.standing, Some(Standing::Defaulting));
@@ -293,7 +284,7 @@ fn cases_have_numbers_in_order(rt: HostRuntime) -> Result<(), Fail> {
 
 #[test]
 fn a_case_bars_until_the_member_leaves(rt: HostRuntime) -> Result<(), Fail> {
-    let mut book = four(&rt, rt.alloc())?;
+    let mut book = four(&rt)?;
     let _tried = try_case(&mut book, 10, 12)?;
     assert_eq!(rt; told(book.update(10, &[], &[])), Err(refusal!(35, Book)));
     assert_eq!(rt; told(book.regulate(10)), Err(refusal!(35, Book)));
@@ -330,8 +321,8 @@ fn nothing_is_paid_out_during_a_case(rt: HostRuntime) -> Result<(), Fail> {
 
 #[test]
 fn a_case_closes_in_its_own_book(rt: HostRuntime) -> Result<(), Fail> {
-    let mut book = four(&rt, rt.alloc())?;
-    let mut other = four(&rt, rt.alloc())?;
+    let mut book = four(&rt)?;
+    let mut other = four(&rt)?;
     let closed = close_elsewhere(&mut book, &mut other, 10);
     assert_eq!(rt; closed, Ok((Some(refusal!(37, Book)), 1)));
     let standings = [
