@@ -74,8 +74,8 @@ fn read(heap: Global, text: &str) -> Result<Request, Trouble> {
     let mut securities = Vec::new(heap);
     let mut trades = Vec::new(heap);
     let mut last = MINIMUM;
-    for (i, text) in text.lines().enumerate() {
-        match read_line(text).ok_or(Trouble::BadLine(i.saturating_add(1)))? {
+    for (line, place) in text.lines().zip(1..) {
+        match read_line(line).ok_or(Trouble::BadLine(place))? {
             Line::Security(security) => securities.push(security)?,
             Line::Trade(trade) => trades.push(trade)?,
             Line::Last(amount) => last = amount,
@@ -150,18 +150,16 @@ pub(crate) fn reply(heap: Global, text: &str) -> Result<String, Trouble> {
 #[cfg(test)]
 mod tests {
     use super::*;
+    use crate::saying::say;
     use std::test::Fail;
 
     const SHARE: &str = "P PLSHARE00018 1000 1250 10000\n";
 
-    // What the program says to the one security with these further lines.
-    fn said(heap: Global, more: &str) -> Result<String, Fail> {
+    // The reply to the one security with these further lines.
+    fn with_share(heap: Global, more: &str) -> Result<String, Trouble> {
         let mut text = String::from_str(heap, SHARE)?;
         text.push_str(more)?;
-        match reply(heap, text.as_str()) {
-            Ok(report) => Ok(report),
-            Err(trouble) => Ok(trouble.to_string(heap)?),
-        }
+        reply(heap, text.as_str())
     }
 
     #[test]
@@ -192,10 +190,6 @@ mod tests {
                 "refused 15 c at 1: the ISIN of this security was listed before",
             ),
         ];
-        for (more, expected) in cases {
-            let answer = said(rt.alloc(), more)?;
-            assert!(rt; answer.as_str() == expected, "{}", more);
-        }
-        Ok(())
+        say(&rt, with_share, &cases)
     }
 }

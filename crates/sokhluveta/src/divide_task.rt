@@ -5,6 +5,7 @@ ghost use Rattle.division.specs.Division.{parts_of};
 use crate::trouble::Trouble;
 use division::divide;
 use std::alloc::Global;
+use std::num::Saturating;
 
 #[derive(Drop)]
 struct Request {
@@ -17,12 +18,12 @@ fn number(word: &str, place: usize) -> Result<u64, Trouble> {
 }
 
 fn read(heap: Global, text: &str) -> Result<Request, Trouble> {
-    let mut words = text.split_whitespace().enumerate();
-    let (_, first) = words.next().ok_or(Trouble::NoAmount)?;
-    let amount = number(first, 1)?;
+    let mut words = text.split_whitespace().zip(1..);
+    let (first, place) = words.next().ok_or(Trouble::NoAmount)?;
+    let amount = number(first, place)?;
     let mut weights = Vec::new(heap);
-    for (i, word) in words {
-        weights.push(number(word, i.saturating_add(1))?)?;
+    for (word, place) in words {
+        weights.push(number(word, place)?)?;
     }
     Ok(Request { amount, weights })
 }
@@ -46,13 +47,11 @@ pub(crate) fn reply(heap: Global, text: &str) -> Result<String, Trouble> {
     let amount = request.amount;
     let count = parts.len();
     let mut out = format!(in heap; "{amount} divided over {count} weights\n")?;
-    let mut sum: u64 = 0;
-    for (i, (weight, part)) in request.weights.iter().zip(parts.iter()).enumerate() {
-        let place = i.saturating_add(1);
+    for ((weight, part), place) in request.weights.iter().zip(&parts).zip(1..) {
         let line = format!(in heap; "{place}: weight {weight} part {part}\n")?;
         out.push_str(line.as_str())?;
-        sum = sum.saturating_add(*part);
     }
+    let Saturating(sum) = parts.iter().copied().map(Saturating).sum();
     let last = format!(in heap; "sum {sum}\n")?;
     out.push_str(last.as_str())?;
     Ok(out)
@@ -61,15 +60,8 @@ pub(crate) fn reply(heap: Global, text: &str) -> Result<String, Trouble> {
 #[cfg(test)]
 mod tests {
     use super::*;
+    use crate::saying::say;
     use std::test::Fail;
-
-    // What the program says to this text.
-    fn said(heap: Global, text: &str) -> Result<String, Fail> {
-        match reply(heap, text) {
-            Ok(report) => Ok(report),
-            Err(trouble) => Ok(trouble.to_string(heap)?),
-        }
-    }
 
     #[test]
     fn replies(rt: HostRuntime) -> Result<(), Fail> {
@@ -92,10 +84,6 @@ mod tests {
                 "refused 25 d at 0: more than 64 weights, or weights above 4,000,000,000 in sum",
             ),
         ];
-        for (text, expected) in cases {
-            let answer = said(rt.alloc(), text)?;
-            assert!(rt; answer.as_str() == expected, "{}", text);
-        }
-        Ok(())
+        say(&rt, reply, &cases)
     }
 }

@@ -3,6 +3,8 @@
 
 mod contribution_task;
 mod divide_task;
+#[cfg(test)]
+mod saying;
 mod trouble;
 
 use anyhow::anyhow;
