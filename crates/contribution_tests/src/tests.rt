@@ -341,10 +341,9 @@ fn highest_contribution(rt: HostRuntime) {
 
 #[test]
 fn sixty_four_securities_and_one_more(rt: HostRuntime) -> Result<(), Fail> {
-    let mut securities = Vec::new(rt.alloc());
-    for n in 0..64 {
-        securities.push(security(n, 1, 0, 10_000))?;
-    }
+    let mut securities: Vec<Security> = (0..64)
+        .map(|n| security(n, 1, 0, 10_000))
+        .collect(rt.alloc())?;
     let trades = [bought(0, 1, 4_000_001), bought(63, 1, 3_000_001)];
     assert_eq!(rt; provisional(securities.as_slice(), &trades), Ok(7_000_000));
     securities.push(security(64, 0, 0, 0))?;
@@ -359,10 +358,7 @@ fn sixty_four_securities_and_one_more(rt: HostRuntime) -> Result<(), Fail> {
 fn trades_up_to_their_limit(rt: HostRuntime) -> Result<(), Fail> {
     let securities = [security(0, 100_000_000, 10_000, 100_000)];
     let unpriced = [security(0, 0, 0, 0)];
-    let mut trades = Vec::new(rt.alloc());
-    for _ in 0..128 {
-        trades.push(sold(0, 1, 1))?;
-    }
+    let mut trades = vec![in rt.alloc(); sold(0, 1, 1); 128]?;
     // the number that is divided comes near 2.56 × 10^19
     assert_eq!(rt;
         provisional(&securities, trades.as_slice()),

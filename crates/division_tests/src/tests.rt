@@ -2,6 +2,9 @@
 use division::{Fault, Layer, Refusal, divide};
 use std::test::Fail;
 
+// The largest amount, and the most that weights come to.
+const MOST: u64 = 4_000_000_000;
+
 #[test]
 fn parts_follow_the_weights(rt: HostRuntime) {
     let mut parts = [9, 9, 9];
@@ -16,7 +19,6 @@ fn parts_follow_the_weights(rt: HostRuntime) {
 #[test]
 fn refusals_leave_the_list(rt: HostRuntime) {
     let mut parts = [7, 8];
-    let most = 4_000_000_000;
     assert_eq!(rt;
         divide(1, &[1], &mut parts),
         Err(Fault::Things),
@@ -28,7 +30,7 @@ fn refusals_leave_the_list(rt: HostRuntime) {
         "a list too short"
     );
     assert_eq!(rt;
-        divide(1, &[most, 1], &mut parts),
+        divide(1, &[MOST, 1], &mut parts),
         Err(Fault::Things),
         "weights one too many"
     );
@@ -38,7 +40,7 @@ fn refusals_leave_the_list(rt: HostRuntime) {
         "the largest weights"
     );
     assert_eq!(rt;
-        divide(most + 1, &[0, 0], &mut parts),
+        divide(MOST + 1, &[0, 0], &mut parts),
         Err(Fault::Amount),
         "the amount before the weights"
     );
@@ -63,18 +65,14 @@ fn refusals_leave_the_list(rt: HostRuntime) {
 #[test]
 fn limits_pass(rt: HostRuntime) {
     let mut parts = [0, 0];
-    let most = 4_000_000_000;
-    assert_eq!(rt; divide(most, &[most - 1, 1], &mut parts), Ok(()));
-    assert_eq!(rt; parts, [most - 1, 1]);
+    assert_eq!(rt; divide(MOST, &[MOST - 1, 1], &mut parts), Ok(()));
+    assert_eq!(rt; parts, [MOST - 1, 1]);
 }
 
 #[test]
 fn sixty_four_things_and_one_more(rt: HostRuntime) -> Result<(), Fail> {
     let heap = rt.alloc();
-    let mut things = Vec::new(heap);
-    for _ in 0..64 {
-        things.push(1)?;
-    }
+    let mut things = vec![in heap; 1; 64]?;
     let mut parts = vec![in heap; 5; 64]?;
     assert_eq!(rt; divide(65, things.as_slice(), parts.as_mut_slice()), Ok(()));
     assert_eq!(rt; parts.get(0).copied(), Some(1));

@@ -1,3 +1,4 @@
+// The tests of the houses: transfers played from scripts, comparisons, and the limits of making.
 use crate::passing::Passing;
 use crate::shut::Shut;
 use houses::{Entry, Fault, House, ListHouse, Opening, TableHouse, Transfer, compare};
@@ -168,10 +169,9 @@ fn comparing_stops_at_the_list_that_is_full(rt: HostRuntime) -> Result<(), Fail>
 
 #[test]
 fn limits_of_making(rt: HostRuntime) -> Result<(), Fail> {
-    let mut many = Vec::with_capacity(rt.alloc(), 129)?;
-    for account in 0..128 {
-        many.push(opening(account, MOST))?;
-    }
+    let mut many: Vec<Opening> = (0..128)
+        .map(|account| opening(account, MOST))
+        .collect(rt.alloc())?;
     assert_eq!(rt; number(TableHouse::check(&many)), None);
     many.push(opening(9_999, 1))?;
     assert_eq!(rt; number(TableHouse::check(&many)), Some(19));

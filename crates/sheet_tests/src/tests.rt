@@ -1,13 +1,20 @@
+// The tests of the day sheet, each over sheets and what they print.
 use sheet::run;
 use std::alloc::Global;
 use std::process::Abort;
 use std::test::Fail;
 
+// What the sheet prints is the text.
+fn prints(rt: &(impl Abort + AllocGlobal), sheet: &[u8], text: &str) -> Result<(), Fail> {
+    let out = run(rt.alloc(), sheet)?;
+    assert_eq!(rt; out.as_str(), text);
+    Ok(())
+}
+
 // Each sheet with the text that it prints.
-fn print(rt: &impl Abort, heap: Global, sheets: &[(&str, &str)]) -> Result<(), Fail> {
+fn print(rt: &(impl Abort + AllocGlobal), sheets: &[(&str, &str)]) -> Result<(), Fail> {
     for (sheet, text) in sheets {
-        let out = run(heap, sheet.as_bytes())?;
-        assert_eq!(rt; out.as_str(), *text);
+        prints(rt, sheet.as_bytes(), text)?;
     }
     Ok(())
 }
@@ -16,7 +23,6 @@ fn print(rt: &impl Abort, heap: Global, sheets: &[(&str, &str)]) -> Result<(), F
 fn first_line(rt: HostRuntime) -> Result<(), Fail> {
     print(
         &rt,
-        rt.alloc(),
         &[
             ("", "1 ? N 23 s\nend 0 0 0\n"),
             ("AFG 1", "1 ? N 23 s\nend 0 0 0\n"),
@@ -33,7 +39,6 @@ fn first_line(rt: HostRuntime) -> Result<(), Fail> {
 fn head_house_and_opening(rt: HostRuntime) -> Result<(), Fail> {
     print(
         &rt,
-        rt.alloc(),
         &[
             ("AFG 1\nH 1 x\n", "2 ? N 24 s\nend 0 0 0\n"),
             ("AFG 1\nHello\n", "2 ? N 24 s\nend 0 0 0\n"),
@@ -61,7 +66,6 @@ fn head_house_and_opening(rt: HostRuntime) -> Result<(), Fail> {
 fn lines_that_stop(rt: HostRuntime) -> Result<(), Fail> {
     print(
         &rt,
-        rt.alloc(),
         &[
             ("AFG 1\nH 0 0\n\n", "3 ? N 24 s\nend 0 0 0\n"),
             ("AFG 1\nH 0 0\n ", "3 ? N 24 s\nend 0 0 0\n"),
@@ -93,7 +97,6 @@ fn lines_that_stop(rt: HostRuntime) -> Result<(), Fail> {
 fn numbers_keep_their_width(rt: HostRuntime) -> Result<(), Fail> {
     print(
         &rt,
-        rt.alloc(),
         &[
             (
                 "AFG 1\nH 0 0\nH 1 9\nJ 9\nJ 9999999999\nL 4294967306\n",
@@ -119,7 +122,6 @@ fn numbers_keep_their_width(rt: HostRuntime) -> Result<(), Fail> {
 fn updates_take_the_lines_above(rt: HostRuntime) -> Result<(), Fail> {
     print(
         &rt,
-        rt.alloc(),
         &[
             (
                 "AFG 1\nH 0 0\nH 10 10000000\nP PLAAAAAAAAA1 1000 1250 10000\nT 10 PLAAAAAAAAA1 K 50000 1040\nJ 10\nU 10\nT 10 PLAAAAAAAAA1 S 20000 990\nU 10\nR 10\nD 10\njunk\nC\n",
@@ -137,7 +139,6 @@ fn updates_take_the_lines_above(rt: HostRuntime) -> Result<(), Fail> {
 fn cases(rt: HostRuntime) -> Result<(), Fail> {
     print(
         &rt,
-        rt.alloc(),
         &[
             (
                 "AFG 1\nH 0 0\nW 0\nB 9999999999\nC\n",
@@ -170,20 +171,17 @@ fn sized(heap: Global, size: usize) -> Result<Vec<u8>, Fail> {
 #[test]
 fn sizes(rt: HostRuntime) -> Result<(), Fail> {
     let most = sized(rt.alloc(), 65_536)?;
-    let out = run(rt.alloc(), most.as_slice())?;
-    assert_eq!(rt; out.as_str(), "3 ? N 24 s\nend 0 0 0\n");
+    prints(&rt, &most, "3 ? N 24 s\nend 0 0 0\n")?;
     let more = sized(rt.alloc(), 65_537)?;
-    let out = run(rt.alloc(), more.as_slice())?;
-    assert_eq!(rt; out.as_str(), "1 ? N 19 s\nend 0 0 0\n");
-    Ok(())
+    prints(&rt, &more, "1 ? N 19 s\nend 0 0 0\n")
 }
 
 #[test]
 fn bytes_of_any_kind(rt: HostRuntime) -> Result<(), Fail> {
-    let out = run(rt.alloc(), &[0, 255, 13, 10])?;
-    assert_eq!(rt; out.as_str(), "1 ? N 23 s\nend 0 0 0\n");
-    let sheet = b"AFG 1\nH 0 0\nP \x00\x09\x0d\xff56789012 1 1 1\nU 10\nJ \xff\n";
-    let out = run(rt.alloc(), sheet)?;
-    assert_eq!(rt; out.as_str(), "4 U N 13 c\n5 ? N 24 s\nend 0 0 0\n");
-    Ok(())
+    prints(&rt, &[0, 255, 13, 10], "1 ? N 23 s\nend 0 0 0\n")?;
+    prints(
+        &rt,
+        b"AFG 1\nH 0 0\nP \x00\x09\x0d\xff56789012 1 1 1\nU 10\nJ \xff\n",
+        "4 U N 13 c\n5 ? N 24 s\nend 0 0 0\n",
+    )
 }
