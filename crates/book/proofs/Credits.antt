@@ -1,5 +1,5 @@
 -- Weights taken from the rows, and parts added to them.
-use Rattle.std.proofs.Common.{◌≡◌, ℕ, ◌+◌, ◌<◌, ◌≤◌, List, [], ◌∷◌, ◌++◌, map, length, get_or, take, set, Ok, Err, IsOk, Result, sum, sym, refl, ap, ◌∙◌, arith}
+use Rattle.std.proofs.Common.{◌≡◌, ℕ, ◌+◌, ◌<◌, ◌≤◌, List, [], ◌∷◌, map, length, get_or, take, set, Ok, IsOk, Result, sum, sym, refl, ap, ◌∙◌, arith}
 use Rattle.std.proofs.lemmas.List.{take_more_set, map_more, map-id, length-map}
 use Rattle.std.proofs.lemmas.List.FromFn.{length-range_with_len}
 use Rattle.std.proofs.lemmas.List.Sums.{sum_by-cons, sum-map}
@@ -17,11 +17,7 @@ use Rattle.book.proofs.Parts.{kept_by_parts, sum_by_parts, none_in_sum}
 
 -- one more number, the weight of one more row
 pub weighed : {X : Type 0} (g : X → ℕ) (out : List ℕ) (rows : List X) (i n : ℕ) (d : X) → i < length out → i < length rows → n ≡ g (get_or rows i d) → take i out ≡ map g (take i rows) → take (i + 1) (set out i n) ≡ map g (take (i + 1) rows)
-weighed g out rows i n d h k e inv = take_more_set out i n h ∙ ap (λ m. take i out ++ m ∷ []) e ∙ ap (λ ns. ns ++ g (get_or rows i d) ∷ []) inv ∙ sym (map_more g rows i d k)
-
--- the parts go to the shares
-shares_credited : (rows : List Row) (ps : List ℕ) → length ps ≡ length rows → shares (credited rows ps) ≡ shares rows + sum ps
-shares_credited rows ps e = omega (arith, sum_by_parts credit share (λ _. 0) (λ n. n) rows ps e (λ k h. omega arith), none_in_sum ps)
+weighed g out rows i n d h k e inv = cc (take_more_set out i n h, map_more g rows i d k)
 
 -- and not to what is charged
 pub charges_credited : (rows : List Row) (ps : List ℕ) → charges (credited rows ps) ≡ charges rows
@@ -29,24 +25,15 @@ charges_credited rows ps = sym (sum-map (λ r. r.charged) (by_parts credit rows 
 
 -- a call whose answer is a value was made
 pub made : {V E : Type 0} (tells : E → Refusal) (r : Result V E) (v : V) → answer tells r ≡ Ok v → IsOk r
-made tells (Ok u) v e = refl
-made tells (Err d) v e = let z : ◌≡◌ {A = ℕ} 0 1 = cc in absurd (omega arith)
-
--- a division that no check refuses
-divisible : (a n : ℕ) (ws : List ℕ) → length ws ≤ 64 → n ≡ length ws → sum ws ≤ 4000000000 → a ≤ 4000000000 → 0 < sum ws → verdict a ws n ≡ Ok tt
-divisible a n ws few long limit low some = grind (arith, nat_tests)
+made tells r v e = grind arith
 
 pub bases_within : (rows : List Row) → sum (weights Base rows) ≤ shares rows
 bases_within [] = omega arith
-bases_within (r ∷ rows) =
-    let rest = bases_within rows in
-    let a = sum_by-cons (λ n. n) r.base (weights Base rows) in
-    let b = sum_by-cons share r rows in
-    omega arith
+bases_within (r ∷ rows) = omega (arith, bases_within rows, sum_by-cons (λ n. n) r.base (weights Base rows), sum_by-cons share r rows)
 
 -- nor does one refuse the same by the numbers at the front of a list
 pub divides : (a n k : ℕ) (ws out : List ℕ) → take k out ≡ ws → length ws ≤ 64 → n ≡ length ws → sum ws ≤ 4000000000 → a ≤ 4000000000 → 0 < sum ws → verdict a (map (λ w. w) (take k out)) n ≡ Ok tt
-divides a n k ws out e few long limit low some = rw (map-id, e) (divisible a n ws few long limit low some)
+divides a n k ws out e few long limit low some = grind (arith, nat_tests, map-id)
 
 -- the parts of an amount are as many as the rows, and sum to it
 pub parts_fit : (basis : Basis) (rows : List Row) (amount : ℕ) → 0 < sum (weights basis rows) → (length (parts_of amount (weights basis rows)) ≡ length rows) × (sum (parts_of amount (weights basis rows)) ≡ amount)
@@ -54,5 +41,5 @@ parts_fit basis rows amount h = (simp (length-map, length-range_with_len), (fair
 
 pub shares_spread : (basis : Basis) (rows : List Row) (amount : ℕ) → 0 < sum (weights basis rows) → shares (credited rows (parts_of amount (weights basis rows))) ≡ shares rows + amount
 shares_spread basis rows amount h =
-    let fit = parts_fit basis rows amount h in
-    omega (arith, shares_credited rows (parts_of amount (weights basis rows)) fit.0)
+    let ps = parts_of amount (weights basis rows) in
+    grind (arith, sum_by_parts credit share (λ _. 0) (λ n. n) rows ps, none_in_sum ps, parts_fit basis rows amount h)

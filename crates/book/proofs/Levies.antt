@@ -1,96 +1,35 @@
 -- What a levy on a group takes from the rows, and what it leaves alone.
-use Rattle.std.proofs.Common.{◌≡◌, ℕ, zero, suc, ◌+◌, ◌-◌, ◌<◌, ◌≤◌, min, true, List, [], ◌∷◌, map, length, get_or, Some, None, Ok, sum, Option, refl, ap, ◌∙◌, inl, inr, zero-mul, arith}
+use Rattle.std.proofs.Common.{◌≡◌, ℕ, zero, suc, ◌+◌, ◌-◌, ◌<◌, ◌≤◌, min, List, [], ◌∷◌, map, length, get_or, sum, refl, ap, ◌∙◌, inl, inr, zero-mul, arith}
 use native.Mathlib.Nat.{zero-div, sub_self}
 use Rattle.std.specs.List.{range_with_len}
 use Rattle.std.proofs.lemmas.List.{length-map, get_or-map}
 use Rattle.std.proofs.lemmas.List.FromFn.{length-range_with_len}
 use Rattle.std.proofs.lemmas.List.Sums.{sum_by-cons, sum-map}
-use Rattle.std.proofs.lemmas.Bool.{cases_Bool, cases_eq}
-use Rattle.std.proofs.lemmas.Bool.Decides.{nat_tests}
-use Rattle.division.specs.Refusals.{checked}
+use Rattle.std.proofs.lemmas.Bool.{cases_eq}
 use Rattle.division.specs.Division.{part, parts_of}
 use Rattle.division.proofs.Shares.{fair}
 use Rattle.book.specs.declared.rows.Row.{Row}
-use Rattle.book.specs.declared.rows.OpenCase.{OpenCase as Open}
 use Rattle.book.specs.declared.groups.Group.{Group}
 use Rattle.book.specs.declared.groups.Group.TheVariants.{OwnBase, OwnReserve, OtherBases, OtherReserves}
 use Rattle.book.specs.declared.groups.Basis.{Basis}
-use Rattle.book.specs.declared.groups.Basis.TheVariants.{Base, Charged, Group as Of}
+use Rattle.book.specs.declared.groups.Basis.TheVariants.{Group as Of}
 use Rattle.book.specs.Rows.{share, shares, charges, nobody}
-use Rattle.book.specs.Groups.{in_default, in_group, weights, has, charged_in, pays, levied, Levy, used_rows}
-use Rattle.book.specs.States.{State, is_open, charged_of, more_charged, usage}
+use Rattle.book.specs.Groups.{in_group, weights, has, charged_in, pays, levied, Levy, used_rows}
 use Rattle.book.proofs.Parts.{no_change, kept_by_parts, sum_by_parts, none_in_sum}
 use Rattle.book.proofs.Credits.{parts_fit, bases_within}
-
--- a charge of 0 leaves a row as it was
-no_charge : (g : Group) (r : Row) → charged_in g r 0 ≡ r
-no_charge OwnBase r = grind (arith, cases_Bool (in_default r.standing))
-no_charge OwnReserve r = grind (arith, cases_Bool (in_default r.standing))
-no_charge OtherBases r = grind (arith, cases_Bool (in_default r.standing))
-no_charge OtherReserves r = grind (arith, cases_Bool (in_default r.standing))
-
--- what is charged comes off the share of its row
-share_charged : (g : Group) (r : Row) (p : ℕ) → p ≤ in_group g r → share (charged_in g r p) + p ≡ share r
-share_charged OwnBase r p h = grind (arith, cases_Bool (in_default r.standing))
-share_charged OwnReserve r p h = grind (arith, cases_Bool (in_default r.standing))
-share_charged OtherBases r p h = grind (arith, cases_Bool (in_default r.standing))
-share_charged OtherReserves r p h = grind (arith, cases_Bool (in_default r.standing))
-
--- and is kept there
-kept_charged : (g : Group) (r : Row) (p : ℕ) → p ≤ in_group g r → (charged_in g r p).charged ≡ r.charged + p
-kept_charged OwnBase r p h = grind (arith, cases_Bool (in_default r.standing))
-kept_charged OwnReserve r p h = grind (arith, cases_Bool (in_default r.standing))
-kept_charged OtherBases r p h = grind (arith, cases_Bool (in_default r.standing))
-kept_charged OtherReserves r p h = grind (arith, cases_Bool (in_default r.standing))
-
--- what of a row is in another group stays
-other_row : (g h : Group) → (g ≡ h → ⊥) → (r : Row) (p : ℕ) → in_group h (charged_in g r p) ≡ in_group h r
-other_row OwnBase OwnBase ne r p = absurd (ne refl)
-other_row OwnBase OwnReserve ne r p = grind (arith, cases_Bool (in_default r.standing))
-other_row OwnBase OtherBases ne r p = grind (arith, cases_Bool (in_default r.standing))
-other_row OwnBase OtherReserves ne r p = grind (arith, cases_Bool (in_default r.standing))
-other_row OwnReserve OwnBase ne r p = grind (arith, cases_Bool (in_default r.standing))
-other_row OwnReserve OwnReserve ne r p = absurd (ne refl)
-other_row OwnReserve OtherBases ne r p = grind (arith, cases_Bool (in_default r.standing))
-other_row OwnReserve OtherReserves ne r p = grind (arith, cases_Bool (in_default r.standing))
-other_row OtherBases OwnBase ne r p = grind (arith, cases_Bool (in_default r.standing))
-other_row OtherBases OwnReserve ne r p = grind (arith, cases_Bool (in_default r.standing))
-other_row OtherBases OtherBases ne r p = absurd (ne refl)
-other_row OtherBases OtherReserves ne r p = grind (arith, cases_Bool (in_default r.standing))
-other_row OtherReserves OwnBase ne r p = grind (arith, cases_Bool (in_default r.standing))
-other_row OtherReserves OwnReserve ne r p = grind (arith, cases_Bool (in_default r.standing))
-other_row OtherReserves OtherBases ne r p = grind (arith, cases_Bool (in_default r.standing))
-other_row OtherReserves OtherReserves ne r p = absurd (ne refl)
-
--- the groups have all of a row
-row_in_groups : (r : Row) → in_group OwnBase r + in_group OwnReserve r + in_group OtherBases r + in_group OtherReserves r ≡ share r
-row_in_groups r = grind (arith, cases_Bool (in_default r.standing))
 
 -- and of all rows
 pub groups_are_all : (rows : List Row) → has OwnBase rows + has OwnReserve rows + has OtherBases rows + has OtherReserves rows ≡ shares rows
 groups_are_all [] = refl
-groups_are_all (r ∷ rows) =
-    let one = row_in_groups r in
-    let rest = groups_are_all rows in
-    let more = λ (g : Group). sum_by-cons (λ n. n) (in_group g r) (weights (Of g) rows) in
-    omega (arith, more OwnBase, more OwnReserve, more OtherBases, more OtherReserves, sum_by-cons share r rows)
-
--- so that no group has more than the shares
-pub has_within : (g : Group) (rows : List Row) → has g rows ≤ shares rows
-has_within OwnBase rows = omega (arith, groups_are_all rows)
-has_within OwnReserve rows = omega (arith, groups_are_all rows)
-has_within OtherBases rows = omega (arith, groups_are_all rows)
-has_within OtherReserves rows = omega (arith, groups_are_all rows)
+groups_are_all (r ∷ rows) = grind (arith, groups_are_all rows, λ (g : Group). sum_by-cons (λ n. n) (in_group g r) (weights (Of g) rows), sum_by-cons share r rows)
 
 -- no basis gives the rows more weight than a limit of both their sums
 pub weights_within : (basis : Basis) (rows : List Row) (n : ℕ) → shares rows ≤ n → charges rows ≤ n → sum (weights basis rows) ≤ n
-weights_within Base rows n h k = omega (arith, bases_within rows)
-weights_within Charged rows n h k = omega (arith, sum-map (λ r. r.charged) rows)
-weights_within (Of g) rows n h k = omega (arith, has_within g rows)
+weights_within basis rows n h k = grind (arith, bases_within rows, sum-map (λ (r : Row). r.charged) rows, groups_are_all rows)
 
 -- a levy on one group leaves what the rows have in another
 pub other_group : (g h : Group) → (g ≡ h → ⊥) → (n : ℕ) (rows : List Row) → weights (Of h) (levied g n rows) ≡ weights (Of h) rows
-other_group g h ne n rows = kept_by_parts (charged_in g) (in_group h) (other_row g h ne) rows (parts_of n (weights (Of g) rows))
+other_group g h ne n rows = kept_by_parts (charged_in g) (in_group h) (λ r p. grind arith) rows (parts_of n (weights (Of g) rows))
 
 -- the parts of 0 are 0
 nothing : (ws : List ℕ) → parts_of 0 ws ≡ map (λ _. 0) (range_with_len 0 (length ws))
@@ -109,7 +48,7 @@ nothing_at ws k = ap (λ ps. get_or ps k 0) (nothing ws) ∙ all (range_with_len
 
 -- a levy of 0 leaves the rows as they were
 pub levied_none : (g : Group) (rows : List Row) → levied g 0 rows ≡ rows
-levied_none g rows = no_change (charged_in g) (no_charge g) rows (parts_of 0 (weights (Of g) rows)) (nothing_at (weights (Of g) rows))
+levied_none g rows = no_change (charged_in g) (λ r. grind arith) rows (parts_of 0 (weights (Of g) rows)) (nothing_at (weights (Of g) rows))
 
 -- the parts of what a group pays: as many as the rows, in sum what it pays, and none above what of its row is in the group
 pub group_parts : (g : Group) (n : ℕ) (rows : List Row) → n ≤ has g rows → (length (parts_of n (weights (Of g) rows)) ≡ length rows) × (sum (parts_of n (weights (Of g) rows)) ≡ n) ×
@@ -127,15 +66,13 @@ group_parts g n rows small =
 pub shares_levied : (g : Group) (n : ℕ) (rows : List Row) → n ≤ has g rows → shares (levied g n rows) + n ≡ shares rows
 shares_levied g n rows small =
     let ps = parts_of n (weights (Of g) rows) in
-    let fit = group_parts g n rows small in
-    omega (arith, none_in_sum ps, sum_by_parts (charged_in g) share (λ p. p) (λ _. 0) rows ps fit.0 (λ k h. omega (arith, share_charged g (get_or rows k nobody) (get_or ps k 0) (fit.2 k h))))
+    grind (arith, group_parts g n rows small, none_in_sum ps, sum_by_parts (charged_in g) share (λ p. p) (λ _. 0) rows ps)
 
 -- and is kept as charged
 pub charges_levied : (g : Group) (n : ℕ) (rows : List Row) → n ≤ has g rows → charges (levied g n rows) ≡ charges rows + n
 charges_levied g n rows small =
     let ps = parts_of n (weights (Of g) rows) in
-    let fit = group_parts g n rows small in
-    omega (arith, none_in_sum ps, sum_by_parts (charged_in g) (λ r. r.charged) (λ _. 0) (λ p. p) rows ps fit.0 (λ k h. omega (arith, kept_charged g (get_or rows k nobody) (get_or ps k 0) (fit.2 k h))))
+    grind (arith, group_parts g n rows small, none_in_sum ps, sum_by_parts (charged_in g) (λ r. r.charged) (λ _. 0) (λ p. p) rows ps)
 
 module _ {g : Group} {rest n : ℕ} {rows new : List Row} (levy : Levy g rest rows n new) where
   -- what another group has stays,
@@ -144,9 +81,7 @@ module _ {g : Group} {rest n : ℕ} {rows new : List Row} (levy : Levy g rest ro
 
   -- the payment goes from the shares to what is charged,
   sums_after : (shares new + n ≡ shares rows) × (charges new ≡ charges rows + n)
-  sums_after =
-      let small : n ≤ has g rows = omega (arith, levy.most) in
-      (ap (λ l. shares l + n) levy.left ∙ shares_levied g n rows small, ap charges levy.left ∙ charges_levied g n rows small)
+  sums_after = grind (arith, levy.left, levy.most, shares_levied g n rows, charges_levied g n rows)
 
   -- and there is room for what is left of the rest
   pub room_after : charges rows + rest ≤ 4000000000 → charges new + (rest - n) ≤ 4000000000
@@ -157,15 +92,11 @@ module _ {rows one two three four : List Row} {amount a b c d : ℕ} (first : Le
     (third : Levy OtherBases (amount - a - b) two c three) (fourth : Levy OtherReserves (amount - a - b - c) three d four) where
   -- each has what it had when the first began
   each_has : (has OwnReserve one ≡ has OwnReserve rows) × (has OtherBases two ≡ has OtherBases rows) × (has OtherReserves three ≡ has OtherReserves rows)
-  each_has = (
-    others_have first OwnReserve (grind arith),
-    others_have second OtherBases (grind arith) ∙ others_have first OtherBases (grind arith),
-    others_have third OtherReserves (grind arith) ∙ others_have second OtherReserves (grind arith) ∙ others_have first OtherReserves (grind arith),
-  )
+  each_has = grind (arith, others_have first, others_have second, others_have third)
 
   -- so that each pays what the definition says
   pub in_turn : (a ≡ pays OwnBase rows amount) × (b ≡ pays OwnReserve rows amount) × (c ≡ pays OtherBases rows amount) × (d ≡ pays OtherReserves rows amount)
-  in_turn = (omega (arith, first.most), omega (arith, first.most, second.most, each_has), omega (arith, first.most, second.most, third.most, each_has), omega (arith, first.most, second.most, third.most, fourth.most, each_has))
+  in_turn = grind (arith, first.most, second.most, third.most, fourth.most, each_has)
 
   -- the rows are what it says,
   pub used_in_turn : four ≡ used_rows rows amount
@@ -173,29 +104,12 @@ module _ {rows one two three four : List Row} {amount a b c d : ℕ} (first : Le
 
   -- and the amount goes from the shares to what is charged
   used_sums : amount ≤ shares rows → (shares (used_rows rows amount) + amount ≡ shares rows) × (charges (used_rows rows amount) ≡ charges rows + amount)
-  used_sums enough =
-      let all : a + b + c + d ≡ amount = omega (arith, first.most, second.most, third.most, fourth.most, each_has, groups_are_all rows) in
-      let sums : (shares four + amount ≡ shares rows) × (charges four ≡ charges rows + amount) =
-      (omega (arith, all, sums_after first, sums_after second, sums_after third, sums_after fourth), omega (arith, all, sums_after first, sums_after second, sums_after third, sums_after fourth)) in
-      rw used_in_turn at sums
+  used_sums enough = grind (arith, used_in_turn, first.most, second.most, third.most, fourth.most, each_has, groups_are_all rows, sums_after first, sums_after second, sums_after third, sums_after fourth)
 
 -- a levy that can always be made
 taken : (g : Group) (rest : ℕ) (rows : List Row) → Levy g rest rows (min rest (has g rows)) (levied g (min rest (has g rows)) rows)
 taken g rest rows = record { most = refl; left = refl }
 
--- a use comes off the shares
-pub shares_used : (rows : List Row) (amount : ℕ) → amount ≤ shares rows → shares (used_rows rows amount) + amount ≡ shares rows
-shares_used rows amount enough = (used_sums (taken OwnBase amount rows) (taken OwnReserve _ _) (taken OtherBases _ _) (taken OtherReserves _ _) enough).0
-
--- and is kept as charged
-pub tally_used : (rows : List Row) (amount : ℕ) → amount ≤ shares rows → charges (used_rows rows amount) ≡ charges rows + amount
-tally_used rows amount enough = (used_sums (taken OwnBase amount rows) (taken OwnReserve _ _) (taken OtherBases _ _) (taken OtherReserves _ _) enough).1
-
--- an open case keeps the amount of a use as charged
-charged_more : (o : Option Open) (n amount : ℕ) → is_open o n ≡ true → charged_of (more_charged amount o) ≡ charged_of o + amount
-charged_more None n amount e = let z : ◌≡◌ {A = ℕ} 0 1 = cc in absurd (omega arith)
-charged_more (Some c) n amount e = refl
-
--- a use that the book lets pass
-pub uses : (s : State) (n amount : ℕ) (k u : Option Open) → Ok u ≡ checked (usage s n amount) k → (amount ≤ shares s.rows) × (charged_of s.case + amount ≤ 4000000000) × (charged_of (more_charged amount s.case) ≡ charged_of s.case + amount)
-uses s n amount k u e = (grind (arith, nat_tests), grind (arith, nat_tests), charged_more s.case n amount (grind (arith, nat_tests)))
+-- a use comes off the shares, and is kept as charged
+pub use_sums : (rows : List Row) (amount : ℕ) → amount ≤ shares rows → (shares (used_rows rows amount) + amount ≡ shares rows) × (charges (used_rows rows amount) ≡ charges rows + amount)
+use_sums rows amount enough = used_sums (taken OwnBase amount rows) (taken OwnReserve _ _) (taken OtherBases _ _) (taken OtherReserves _ _) enough

@@ -2,7 +2,7 @@
 use Rattle.std.proofs.Common.{◌≡◌, ℕ, false, not, List, [], ◌∷◌, ◌++◌, Ok, Err, sym, ap, ◌∙◌}
 use Rattle.std.proofs.lemmas.Bool.{cond-false}
 use Rattle.division.specs.declared.refusals.Refusal.{Refusal}
-use Rattle.division.specs.Refusals.{Check, checked, clear}
+use Rattle.division.specs.Refusals.{Check, checked}
 use Rattle.division.proofs.Checks.{checked_refused, checked_made, first_refuses, second_refuses, both_pass}
 use Rattle.contribution.specs.declared.terms.Security.{Security}
 use Rattle.contribution.specs.declared.terms.Trade.{Trade}
@@ -13,12 +13,9 @@ use Rattle.contribution.specs.Contribution as contribution
 use Rattle.book.specs.declared.standings.Event.TheVariants.{Update}
 use Rattle.book.specs.declared.rows.Row.{Row}
 use Rattle.book.specs.Rows.{row_of}
-use Rattle.book.specs.States.{State, bad_code, no_row, forbidden, update_checks, updated_to}
+use Rattle.book.specs.States.{State, no_row, forbidden, update_checks, updated_to}
 
-pub by_code : (s : State) (code : ℕ) (ss : List Security) (ts : List Trade) (v : ℕ) (r : Refusal) → Err r ≡ clear (bad_code code ∷ []) → Err r ≡ checked (update_checks s code ss ts) v
-by_code s code ss ts v r e = first_refuses (bad_code code ∷ []) (contribution.all_checks ss ts ++ (no_row s code ∷ forbidden Update s code ∷ [])) (tt {0}) v r e
-
-module _ (s : State) (code : ℕ) (ss : List Security) (ts : List Trade) (m v : ℕ) (ok : not (within 10 9999 code) ≡ false) where
+module _ {V : Type 0} (s : State) (code : ℕ) (ss : List Security) (ts : List Trade) (m : ℕ) (v : V) (ok : not (within 10 9999 code) ≡ false) where
   cs : List Check
   cs = contribution.all_checks ss ts
 

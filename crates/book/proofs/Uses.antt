@@ -1,10 +1,9 @@
 -- A use takes from each group what the law says, the groups told by the defaulter's code.
-use Rattle.std.proofs.Common.{◌≡◌, ℕ, zero, suc, ◌+◌, ◌-◌, ◌<◌, ◌≤◌, true, eqb, List, [], ◌∷◌, map, length, get_or, is_some, sum, sym, refl, ap, ◌∙◌, inl, inr, arith}
+use Rattle.std.proofs.Common.{◌≡◌, ℕ, zero, suc, ◌+◌, ◌-◌, ◌<◌, ◌≤◌, true, List, [], ◌∷◌, map, length, get_or, is_some, sum, sym, refl, ap, ◌∙◌, arith}
 use native.Mathlib.Nat.{div-zero}
 use Rattle.std.proofs.lemmas.List.{length-map, get_or-map}
 use Rattle.std.proofs.lemmas.List.FromFn.{length-range_with_len, get_or-map-range_with_len}
 use Rattle.std.proofs.lemmas.List.Sums.{sum_by-cons}
-use Rattle.std.proofs.lemmas.Bool.{cases_lt}
 use Rattle.division.specs.Division.{part, parts_of}
 use Rattle.division.proofs.Shares.{fair}
 use Rattle.book.specs.declared.rows.Row.{Row}
@@ -12,7 +11,7 @@ use Rattle.book.specs.declared.groups.Group.{Group}
 use Rattle.book.specs.declared.groups.Group.TheVariants.{OwnBase, OwnReserve, OtherBases, OtherReserves}
 use Rattle.book.specs.declared.groups.Basis.TheVariants.{Group as Of}
 use Rattle.book.specs.Rows.{shares, place, nobody}
-use Rattle.book.specs.Groups.{in_default, in_group, charged_in, charged_all, weights, has, earlier, levied, pays, used_rows}
+use Rattle.book.specs.Groups.{charged_all, weights, has, earlier, levied, pays, used_rows}
 use Rattle.book.specs.Calls.{Groups}
 use Rattle.book.specs.Laws.{own, others, Empty, Pays, Used}
 use Rattle.book.proofs.Membership.{codes_each}
@@ -33,12 +32,8 @@ get_d_lessened (w ∷ ws) (p ∷ ps) (suc k) = get_d_lessened ws ps k
 
 sum_lessened : (ws ps : List ℕ) → length ps ≡ length ws → ((k : ℕ) → k < length ws → get_or ps k 0 ≤ get_or ws k 0) → sum (lessened ws ps) + sum ps ≡ sum ws
 sum_lessened [] [] e h = refl
-sum_lessened [] (p ∷ ps) e h = absurd (omega arith)
-sum_lessened (w ∷ ws) [] e h = absurd (omega arith)
-sum_lessened (w ∷ ws) (p ∷ ps) e h =
-    let first = h 0 (omega arith) in
-    let rest = sum_lessened ws ps (omega arith) (λ k l. h (suc k) (omega arith)) in
-    omega (arith, sum_by-cons (λ n. n) w ws, sum_by-cons (λ n. n) p ps, sum_by-cons (λ n. n) (w - p) (lessened ws ps))
+sum_lessened (w ∷ ws) (p ∷ ps) e h = omega (arith, h 0 (omega arith), sum_lessened ws ps (omega arith) (λ k l. h (suc k) (omega arith)), sum_by-cons (λ n. n) w ws, sum_by-cons (λ n. n) p ps, sum_by-cons (λ n. n) (w - p) (lessened ws ps))
+sum_lessened ws ps e h = absurd (omega arith)
 
 -- what is left of the weights once they paid n
 abbrev left : ℕ → List ℕ → List ℕ
@@ -46,17 +41,11 @@ left n ws = lessened ws (parts_of n ws)
 
 -- of an amount not above the weights in sum, be that 0, no part is above its weight
 within : (n : ℕ) (ws : List ℕ) → n ≤ sum ws → (k : ℕ) → k < length ws → get_or (parts_of n ws) k 0 ≤ get_or ws k 0
-within n ws enough k h =
-    elim (cases_lt 0 (sum ws)) [
-      | inl some ↦ (fair n ws some).within enough k h
-      | inr none ↦ (let e : sum ws ≡ 0 = omega arith in let z : part n ws k ≡ 0 = simp (e, div-zero) in omega (arith, get_or-map-range_with_len (part n ws) 0 (length ws) k k 0 h (omega arith)))
-    ]
+within n ws enough k h = grind (arith, fair n ws, div-zero, get_or-map-range_with_len (part n ws) 0 (length ws) k k 0 h)
 
 -- weights that paid all that they have are empty
 all_paid : (n : ℕ) (ws : List ℕ) → n ≡ sum ws → sum (left n ws) ≡ 0
-all_paid n ws e =
-    let off = sum_lessened ws (parts_of n ws) (simp (length-map, length-range_with_len)) (within n ws (omega arith)) in
-    elim (cases_lt 0 (sum ws)) [ inl some ↦ omega (arith, (fair n ws some).whole) | inr none ↦ omega arith ]
+all_paid n ws e = grind (arith, sum_lessened ws (parts_of n ws) (simp (length-map, length-range_with_len)) (within n ws (omega arith)), fair n ws)
 
 -- a group whose weights are those left of a payment paid it
 fairly_paid : (f : Row → ℕ) (before after : List Row) (n : ℕ) → length after ≡ length before → n ≤ sum (map f before) → map f after ≡ left n (map f before) → Pays f before after n
@@ -73,14 +62,10 @@ fairly_paid f before after n long enough e =
       none = λ none. omega arith;
     }
 
--- a charge comes off what of its row is in the group
-own_row : (g : Group) (p : ℕ) (r : Row) → in_group g (charged_in g r p) ≡ in_group g r - p
-own_row g p r = grind arith
-
 own_group : (g : Group) (rows : List Row) (ps : List ℕ) → weights (Of g) (charged_all g rows ps) ≡ lessened (weights (Of g) rows) ps
 own_group g rows [] = refl
 own_group g [] (p ∷ ps) = refl
-own_group g (r ∷ rows) (p ∷ ps) = cc (own_row g p r, own_group g rows ps)
+own_group g (r ∷ rows) (p ∷ ps) = grind (arith, own_group g rows ps)
 
 -- each group pays its own amount n
 module _ (n : Group → ℕ) where
@@ -95,10 +80,7 @@ module _ (n : Group → ℕ) where
 
   -- of what it had at first, and no later group takes from it
   each_levy : (g : Group) (rows : List Row) → weights (Of g) (levy OtherReserves (levy OtherBases (levy OwnReserve (levy OwnBase rows)))) ≡ left (n g) (weights (Of g) rows)
-  each_levy OwnBase rows = other_levy OtherReserves OwnBase (grind arith) _ ∙ other_levy OtherBases OwnBase (grind arith) _ ∙ other_levy OwnReserve OwnBase (grind arith) _ ∙ own_levy OwnBase rows
-  each_levy OwnReserve rows = other_levy OtherReserves OwnReserve (grind arith) _ ∙ other_levy OtherBases OwnReserve (grind arith) _ ∙ own_levy OwnReserve _ ∙ ap (left (n OwnReserve)) (other_levy OwnBase OwnReserve (grind arith) rows)
-  each_levy OtherBases rows = other_levy OtherReserves OtherBases (grind arith) _ ∙ own_levy OtherBases _ ∙ ap (left (n OtherBases)) (other_levy OwnReserve OtherBases (grind arith) _ ∙ other_levy OwnBase OtherBases (grind arith) rows)
-  each_levy OtherReserves rows = own_levy OtherReserves _ ∙ ap (left (n OtherReserves)) (other_levy OtherBases OtherReserves (grind arith) _ ∙ other_levy OwnReserve OtherReserves (grind arith) _ ∙ other_levy OwnBase OtherReserves (grind arith) rows)
+  each_levy g rows = grind (arith, own_levy, other_levy)
 
 -- what of a row is in the group, by the defaulter's code
 abbrev by_code : ℕ → Group → Row → ℕ
@@ -107,12 +89,9 @@ by_code member OwnReserve = own member (λ r. r.reserve)
 by_code member OtherBases = others member (λ r. r.base)
 by_code member OtherReserves = others member (λ r. r.reserve)
 
-row_by_code : (member : ℕ) (g : Group) (r : Row) → in_default r.standing ≡ eqb r.code member → in_group g r ≡ by_code member g r
-row_by_code member g r e = grind arith
-
 weights_by_code : (member : ℕ) (g : Group) (rows : List Row) → Marked true member rows → weights (Of g) rows ≡ map (by_code member g) rows
 weights_by_code member g [] s = refl
-weights_by_code member g (r ∷ rows) s = cc (row_by_code member g r s.0, weights_by_code member g rows s.1)
+weights_by_code member g (r ∷ rows) s = grind (arith, weights_by_code member g rows)
 
 module _ (member amount : ℕ) (rows : List Row) (s : Marked true member rows) where
   abbrev after : List Row
@@ -129,31 +108,12 @@ module _ (member amount : ℕ) (rows : List Row) (s : Marked true member rows) w
   has_left g = sym (weights_by_code member g after (marked_each true member Charged (λ r t c. c.code) (λ r t c. c.standing) rows after (each_used rows amount) s)) ∙ each_levy (λ h. pays h rows amount) g rows ∙ ap (left (pays g rows amount)) (had g)
 
   paid : (g : Group) → Pays (by_code member g) rows after (pays g rows amount)
-  paid g =
-      let long = sym (length-map after (λ r. r.code)) ∙ ap length same_codes ∙ length-map rows (λ r. r.code) in
-      fairly_paid (by_code member g) rows after (pays g rows amount) long (omega (arith, ap sum (had g))) (has_left g)
+  paid g = fairly_paid (by_code member g) rows after (pays g rows amount) (cc (length-map after (λ r. r.code), length-map rows (λ r. r.code), ap length same_codes)) (omega (arith, ap sum (had g))) (has_left g)
 
   -- an amount that takes all of a group leaves it empty
   emptied : (g : Group) → earlier g rows + has g rows ≤ amount → Empty (by_code member g) after
-  emptied g h = ap sum (has_left g) ∙ all_paid (pays g rows amount) (map (by_code member g) rows) (omega (arith, ap sum (had g)))
+  emptied g h = grind (arith, has_left g, all_paid (pays g rows amount) (map (by_code member g) rows), had g)
 
   pub used_by : is_some (place rows member) ≡ true → amount ≤ shares rows →
       Used member amount (Groups (pays OwnBase rows amount) (pays OwnReserve rows amount) (pays OtherBases rows amount) (pays OtherReserves rows amount)) rows (used_rows rows amount)
-  used_by has_row enough =
-      record {
-        base = pays OwnBase rows amount;
-        reserve = pays OwnReserve rows amount;
-        bases = pays OtherBases rows amount;
-        reserves = pays OtherReserves rows amount;
-        answered = refl;
-        whole = let all = groups_are_all rows in grind arith;
-        same = same_codes;
-        has_row = has_row;
-        own_base = paid OwnBase;
-        own_reserve = paid OwnReserve;
-        other_bases = paid OtherBases;
-        other_reserves = paid OtherReserves;
-        second = λ h. emptied OwnBase (omega arith);
-        third = λ h. (emptied OwnBase (omega arith), emptied OwnReserve (omega arith));
-        fourth = λ h. (emptied OwnBase (omega arith), emptied OwnReserve (omega arith), emptied OtherBases (omega arith));
-      }
+  used_by has_row enough = grind (arith, groups_are_all rows, same_codes, paid OwnBase, paid OwnReserve, paid OtherBases, paid OtherReserves, emptied OwnBase, emptied OwnReserve, emptied OtherBases)

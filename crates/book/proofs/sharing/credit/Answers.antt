@@ -1,7 +1,6 @@
-use Rattle.std.proofs.Common.{refl, ap, ◌∙◌, arith}
-use Rattle.std.proofs.lemmas.List.{take_all}
+use Rattle.std.proofs.Common.{refl, ap, arith}
 use Rattle.std.proofs.lemmas.List.Sums.{get_or-le-sum_by}
-use Rattle.book.specs.Rows.{share, nobody, credit, credited}
+use Rattle.book.specs.Rows.{share, nobody, credit}
 use Rattle.book.proofs.Parts.{as_it_was, one_part_more}
 use Rattle.book.proofs.sharing.credit.Goals as goal
 
@@ -12,6 +11,3 @@ overflow_add-rows c =
 
 pub loop-i-preserved : goal.loop-i-preserved
 loop-i-preserved c = one_part_more credit c.args.rows.now c.loop-i.rows c.args.parts.now c.loop-i.i c.loop-i.invariant nobody _ (omega (arith, c.requires.long)) c.loop-i-test.true refl
-
-pub returns : goal.returns
-returns c = c.loop-i.invariant ∙ ap (credited c.args.rows.now) (take_all c.loop-i.i c.args.parts.now c.loop-i-test.false)

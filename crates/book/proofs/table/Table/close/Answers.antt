@@ -9,9 +9,4 @@ pub invariant_of-self : goal.invariant_of-self
 invariant_of-self c =
     let rows = vec_items c.args.self.now.rows in
     let e : vec_items (with_items c.args.self.now.rows c.close.new.rows) ≡ map case_closed rows = with_items_is c.args.self.now.rows c.close.new.rows (search rules) ∙ c.close.ensures ∙ ap (map case_closed) c.deref_mut.ensures.value in
-    record {
-      few = omega arith;
-      room = omega arith;
-      limit = omega (arith, ap shares e, same_closed rows, c.args.self.now.limit);
-      charged = omega (arith, ap charges e, none_charged rows);
-    }
+    grind (arith, ap shares e, same_closed rows, ap charges e, none_charged rows, c.args.self.now.limit)

@@ -14,10 +14,7 @@ parts_are c =
     ap (λ j. take j c.parts-parts.result) k ∙ c.parts-parts.ensures
 
 pub credit-requires-clause-limit : goal.credit-requires-clause-limit
-credit-requires-clause-limit c =
-    let fit = parts_fit c.args.basis (vec_items c.args.self.now.rows) c.args.amount c.requires.some in
-    let e = ap sum (parts_are (goal.at.credit-requires-clause-limit c).After-len-count) in
-    rw c.deref_mut.ensures.value (omega (arith, e, fit, c.requires.limit))
+credit-requires-clause-limit c = grind (arith, ap sum (parts_are (goal.at.credit-requires-clause-limit c).After-len-count), parts_fit c.args.basis (vec_items c.args.self.now.rows) c.args.amount c.requires.some, c.requires.limit, c.deref_mut.ensures.value)
 
 pub invariant_of-self : goal.invariant_of-self
 invariant_of-self c =

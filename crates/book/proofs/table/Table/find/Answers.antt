@@ -4,9 +4,7 @@ use Rattle.book.specs.Rows.{Stands}
 use Rattle.book.proofs.table.Table.find.Goals as goal
 
 pub index-requires : goal.index-requires
-index-requires c =
-    let at = rw c.as_slice.ensures.value at c.in_ok-i.ensures.stands in
-    omega (arith, at.inside, c.args.self.now.rows.ok.0)
+index-requires c = omega (arith, (rw c.as_slice.ensures.value at c.in_ok-i.ensures.stands).inside, c.args.self.now.rows.ok.0)
 
 pub returns : goal.returns
 returns c =

@@ -1,4 +1,4 @@
-use Rattle.std.proofs.Common.{◌≡◌, ◌-◌, ◌≤◌, min, take, sum, vec_items, vec_len, sym, ap, ◌∙◌, arith, rules}
+use Rattle.std.proofs.Common.{◌≡◌, ◌-◌, ◌≤◌, take, sum, vec_items, vec_len, ap, ◌∙◌, arith, rules}
 use Rattle.std.specs.Vec.{with_items}
 use Rattle.std.proofs.lemmas.List.{with_items_is}
 use Rattle.division.specs.Division.{parts_of}
@@ -27,8 +27,7 @@ charge-requires-clause-within c =
 pub charge-requires-clause-limit : goal.charge-requires-clause-limit
 charge-requires-clause-limit c =
     let a = (goal.at.charge-requires-clause-limit c).After-len-count in
-    let fit = group_parts c.args.group c.min-paid.result (vec_items c.args.self.now.rows) (most a).0 in
-    rw c.deref_mut.ensures.value (omega (arith, ap sum (parts_are a), fit.1, (most a).1, c.requires))
+    grind (arith, ap sum (parts_are a), group_parts c.args.group c.min-paid.result (vec_items c.args.self.now.rows) (most a).0, most a, c.requires, c.deref_mut.ensures.value)
 
 pub invariant_of-self : goal.invariant_of-self
 invariant_of-self c =
@@ -44,7 +43,4 @@ invariant_of-self c =
     }
 
 pub returns-else-paid-gt0 : goal.returns-else-paid-gt0
-returns-else-paid-gt0 c =
-    let rows = vec_items c.args.self.now.rows in
-    let none : 0 ≡ c.min-paid.result = omega arith in
-    record { most = c.min-paid.ensures ∙ ap (min c.args.rest) c.total.ensures; left = sym (levied_none c.args.group rows) ∙ ap (λ n. levied c.args.group n rows) none }
+returns-else-paid-gt0 c = grind (arith, levied_none c.args.group (vec_items c.args.self.now.rows))
