@@ -1,20 +1,25 @@
 -- What holds of the rows of every book: one to a member, one defaulter, and charged figures that sum to what the case charged.
-use Rattle.std.proofs.Common.{◌≡◌, ℕ, true, List, [], ◌∷◌, map, is_some, sum_by, Option, refl, arith}
+use Rattle.std.proofs.Common.{◌≡◌, ℕ, true, List, [], ◌∷◌, map, is_some, Some, None, sum_by, Option, refl, arith}
 use Rattle.std.proofs.lemmas.List.Sums.{sum_by-cons, sum_by_push}
 use Rattle.std.proofs.lemmas.Bool.Decides.{nat_tests}
 use Rattle.book.specs.declared.rows.Row.{Row}
 use Rattle.book.specs.declared.rows.OpenCase.{OpenCase as Open}
 use Rattle.book.specs.declared.standings.Event.TheVariants as event
 use Rattle.book.specs.Rows.{credit, place, changed, credited, required_as, based_as_required, standing_after, case_closed}
-use Rattle.book.specs.States.{State, newcomer, updated_to, charged_of}
+use Rattle.book.specs.States.{State, newcomer, updated_to, is_open, charged_of}
 use Rattle.book.specs.Calls.{Call, Join, Update, Regulate, Income, OpenCase, Use, Recover, Close, Leave, OtherTransfer, effect}
-use Rattle.book.proofs.Shares.{none_charged as none_left}
+use Rattle.book.proofs.Shares.{none_charged}
 use Rattle.book.specs.Laws.{Unique, accused}
 use Rattle.book.proofs.Membership.{Each, each_by_parts, has_changed, unique_changed, sum_changed, unique_without, sum_without, has_more, unique_more, has_each, unique_each}
 use Rattle.book.proofs.Defaults.{Marked, Charged, each_used, marked_changed, marked_without, marked_more, marked_each, unmarked, marked_opened, marked_closed}
 use Rattle.book.proofs.Levies.{use_sums}
 use Rattle.book.proofs.Money.{Tallied}
 use Rattle.book.proofs.Accepted.{Tells}
+
+-- the open case, or none
+pub open_is_some : (c : Option Open) (n : ℕ) → is_open c n ≡ true → is_some c ≡ true
+open_is_some None n h = h
+open_is_some (Some c) n h = refl
 
 -- d is the member of the last case
 pub record Ordered (d : ℕ) (s : State) : Type 0 where
@@ -72,6 +77,6 @@ module _ (d : ℕ) (s : State) (was : Ordered d s) where
       let each = each_used s.rows n in
       grind (arith, unique_each Charged (λ r t x. x.code) s.rows _ each, marked_each (is_some s.case) d Charged (λ r t x. x.code) (λ r t x. x.standing) s.rows _ each, has_each Charged (λ r t x. x.code) s.rows _ each d, use_sums s.rows n)
   order (Recover k n) t = order_credited _ _ (grind arith) (grind arith) _
-  order (Close k) t = grind (arith, unique_each Closed (λ r t x. x.code) s.rows (map case_closed s.rows) (each_closed s.rows), marked_closed d s.rows, none_left s.rows)
+  order (Close k) t = grind (arith, unique_each Closed (λ r t x. x.code) s.rows (map case_closed s.rows) (each_closed s.rows), marked_closed d s.rows, none_charged s.rows)
   order (Leave code) t = grind (arith, unique_without code s.rows, marked_without (is_some s.case) d code s.rows, sum_without code (λ r. r.charged) s.rows)
   order (OtherTransfer from to n) t = grind arith

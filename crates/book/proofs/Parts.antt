@@ -2,9 +2,14 @@
 use Rattle.std.proofs.Common.{◌≡◌, ℕ, zero, suc, ◌+◌, ◌<◌, List, [], ◌∷◌, map, length, get_or, take, set, sum_by, refl, ap, ◌∙◌, arith}
 use Rattle.std.proofs.lemmas.List.Sums.{sum_by-cons}
 use Rattle.book.specs.declared.rows.Row.{Row}
-use Rattle.book.specs.Rows.{nobody, by_parts}
+use Rattle.book.specs.Rows.{nobody, by_parts, credit, credited}
 
 module _ (f : Row → ℕ → Row) where
+  pub length_by_parts : (rows : List Row) (ps : List ℕ) → length (by_parts f rows ps) ≡ length rows
+  length_by_parts rows [] = refl
+  length_by_parts [] (p ∷ ps) = refl
+  length_by_parts (r ∷ rows) (p ∷ ps) = ap suc (length_by_parts rows ps)
+
   same_there : (rows : List Row) (ps : List ℕ) (i : ℕ) (d : Row) → get_or (by_parts f rows (take i ps)) i d ≡ get_or rows i d
   same_there rows ps zero d = refl
   same_there (r ∷ rows) (p ∷ ps) (suc i) d = same_there rows ps i d
@@ -46,3 +51,7 @@ module _ (f : Row → ℕ → Row) where
 pub none_in_sum : {X : Type 0} (xs : List X) → sum_by (λ _. 0) xs ≡ 0
 none_in_sum [] = refl
 none_in_sum (x ∷ xs) = none_in_sum xs
+
+-- parts added to the reserves are rows changed each by its part
+pub credited_by_parts : (rows : List Row) (ps : List ℕ) → credited rows ps ≡ by_parts credit rows ps
+credited_by_parts rows ps = refl

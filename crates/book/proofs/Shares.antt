@@ -1,5 +1,5 @@
 -- What the calls of the book do to the sum of the shares.
-use Rattle.std.proofs.Common.{◌≡◌, ℕ, ◌≤◌, List, [], ◌∷◌, map, set, Ok, sum_by, refl, arith}
+use Rattle.std.proofs.Common.{◌≡◌, ℕ, ◌<◌, ◌≤◌, List, [], ◌∷◌, map, length, get_or, set, Ok, sum_by, sym, refl, ap, arith}
 use Rattle.std.proofs.lemmas.List.Sums.{sum_by-cons, sum_by-set}
 use Rattle.std.proofs.lemmas.Bool.Decides.{nat_tests}
 use Rattle.division.specs.Refusals.{checked}
@@ -8,9 +8,13 @@ use Rattle.book.specs.Rows.{share, shares, charges, row_of, Stands, based_as_req
 use Rattle.book.proofs.Places.{row_there}
 use Rattle.book.specs.States.{State, regulation}
 
--- a member's row that keeps its measure leaves the sum as it was
-pub same_sum : (f : Row → ℕ) (rows : List Row) (code i : ℕ) (w : Row) → Stands rows code i → f w ≡ f (row_of rows code) → sum_by f (set rows i w) ≡ sum_by f rows
-same_sum f rows code i w stands e = grind (arith, row_there rows code i w stands, sum_by-set f rows i w w)
+-- a row that keeps its measure leaves the sum as it was
+pub same_sum : (f : Row → ℕ) (rows : List Row) (i : ℕ) (x w : Row) → i < length rows → x ≡ get_or rows i x → f w ≡ f x → sum_by f (set rows i w) ≡ sum_by f rows
+same_sum f rows i x w h read e = let old = ap f read in omega (arith, sum_by-set f rows i w x h)
+
+-- the same of a member's row
+pub same_for_member : (f : Row → ℕ) (rows : List Row) (code i : ℕ) (w : Row) → Stands rows code i → f w ≡ f (row_of rows code) → sum_by f (set rows i w) ≡ sum_by f rows
+same_for_member f rows code i w stands e = same_sum f rows i (row_of rows code) w stands.inside (sym (row_there rows code i (row_of rows code) stands)) e
 
 -- a regulated row: the sum of the shares after it
 pub when_regulated : (s : State) (code i : ℕ) (k u : ℕ × Row) → Ok u ≡ checked (regulation s code) k → Stands s.rows code i →

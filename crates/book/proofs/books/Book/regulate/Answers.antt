@@ -10,7 +10,7 @@ use Rattle.book.specs.Calls.{Paid}
 use Rattle.book.specs.Books.{view}
 use Rattle.book.proofs.Histories.{stops_with, told, accepted_goes_on}
 use Rattle.book.proofs.Places.{lent, row_is, replaced}
-use Rattle.book.proofs.Shares.{same_sum, when_regulated}
+use Rattle.book.proofs.Shares.{same_for_member, when_regulated}
 use Rattle.book.proofs.books.Book.regulate.Given as given
 use Rattle.book.proofs.books.Book.regulate.Goals as goal
 use Rattle.book.proofs.books.Book.regulate.Goals.{After-settle, After-index_mut}
@@ -54,7 +54,7 @@ invariant_of-self-2 g c =
     let stands = c.in_ok-i.ensures.stands in
     let w = based_on c.in_ok-i.row.required c.index_mut.result.now in
     let e = ap (λ r. shares (set s.rows c.in_ok-i.i r)) (written g a) in
-    let t = same_sum (λ r. r.charged) s.rows c.args.code c.in_ok-i.i w stands (ap (λ r. r.charged) (lent_row g a)) in
+    let t = same_for_member (λ r. r.charged) s.rows c.args.code c.in_ok-i.i w stands (ap (λ r. r.charged) (lent_row g a)) in
     let limit = when_regulated s c.args.code c.in_ok-i.i (found s.rows c.args.code) _ c.in_ok-i.ensures.answer stands in
     ((omega arith, (omega arith, (omega (arith, e, limit), (omega (arith, t, c.args.self.now.table.charged), tt)))), (t ∙ c.args.self.now.tally, tt))
 
