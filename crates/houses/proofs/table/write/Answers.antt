@@ -1,4 +1,4 @@
-use Rattle.std.proofs.Common.{◌≡◌, ℕ, ◌<◌, length, eqb, ltb, get_or, Some, None, is_some, sym, ap, ◌∙◌, inl, inr, arith, rules}
+use Rattle.std.proofs.Common.{◌≡◌, length, eqb, ltb, get_or, Some, None, is_some, sym, ap, ◌∙◌, inl, inr, arith, rules}
 use Rattle.std.specs.List.{position, position_or_len}
 use Rattle.std.proofs.lemmas.Bool.{both_ways, cases_Bool, eqb-true, eqb-false, ltb-false}
 use Rattle.std.proofs.lemmas.Iterator.{YieldsList-from_slice}
@@ -6,7 +6,6 @@ use Rattle.std.proofs.lemmas.Iterator.Search.{position_from_yields_List}
 use Rattle.std.proofs.lemmas.List.Quantifiers.{position-Some}
 use Rattle.std.proofs.lemmas.List.Sums.{fails_before_first}
 use Rattle.houses.specs.declared.table.Account.{Account}
-use Rattle.houses.specs.Table.{kept}
 use Rattle.houses.proofs.Tables.{write_first, unkept}
 use Rattle.houses.proofs.table.write.Goals as goal
 
