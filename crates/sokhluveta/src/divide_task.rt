@@ -21,10 +21,9 @@ fn read(heap: Global, text: &str) -> Result<Request, Trouble> {
     let mut words = text.split_whitespace().zip(1..);
     let (first, place) = words.next().ok_or(Trouble::NoAmount)?;
     let amount = number(first, place)?;
-    let mut weights = Vec::new(heap);
-    for (word, place) in words {
-        weights.push(number(word, place)?)?;
-    }
+    let weights = words
+        .map(|(word, place)| number(word, place))
+        .try_collect(heap)?;
     Ok(Request { amount, weights })
 }
 
