@@ -3,7 +3,7 @@ use crate::calls::Call::*;
 use crate::calls::Seen::*;
 use crate::calls::{Step, refusal, row};
 use crate::lists::Lists;
-use crate::making::{FOUR, list, opened, opens, table, with_members};
+use crate::making::{FOUR, ROOM, list, opened, opens, table, with_members};
 use crate::playing::{join, on_both, plays};
 use book::Book;
 use book::Standing::*;
@@ -133,5 +133,5 @@ fn crowd<C: House + Drop>(rt: &(impl Abort + AllocGlobal), house: C) -> Result<(
 fn a_book_has_sixty_four_rows(rt: HostRuntime) -> Result<(), Fail> {
     let accounts = with_members(rt.alloc(), &[(0, 0), (1, 4_000_000_000)])?;
     crowd(&rt, table(rt.alloc(), &accounts)?)?;
-    crowd(&rt, list(rt.alloc(), &accounts, 1_024)?)
+    crowd(&rt, list(rt.alloc(), &accounts, ROOM)?)
 }

@@ -10,6 +10,9 @@ use std::test::Fail;
 // The most that an account holds.
 pub(crate) const MOST: u64 = 1_000_000_000_000_000;
 
+// The most entries that a list house takes.
+pub(crate) const ROOM: usize = 1_024;
+
 // An account number and its balance.
 pub(crate) type Account = (u64, u64);
 
@@ -60,13 +63,9 @@ pub(crate) fn opens(heap: Global, accounts: &[Account]) -> Result<Result<(), Ref
 }
 
 pub(crate) fn opened<C: House + Drop>(heap: Global, mut house: C) -> Result<Book<C>, Fail> {
-    match Book::check(&mut house) {
-        Ok(()) => {
-            let rows = Vec::with_capacity(heap, ROWS)?;
-            Ok(Book::open(house, rows))
-        }
-        Err(_) => Err(Fail::new("no book over this house")),
-    }
+    Book::check(&mut house).map_err(|_| Fail::new("no book over this house"))?;
+    let rows = Vec::with_capacity(heap, ROWS)?;
+    Ok(Book::open(house, rows))
 }
 
 // A book over a table house with the accounts.

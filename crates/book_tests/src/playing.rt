@@ -2,7 +2,7 @@
 use crate::calls::{Step, Wrong};
 use crate::cases::told;
 use crate::desk::Desk;
-use crate::making::{Account, list, opened, table};
+use crate::making::{Account, ROOM, list, opened, table};
 use book::Book;
 use contribution::MINIMUM;
 use houses::House;
@@ -50,5 +50,5 @@ pub(crate) fn on_both(
     steps: &[Step],
 ) -> Result<(), Fail> {
     over(rt, table(rt.alloc(), accounts)?, steps)?;
-    over(rt, list(rt.alloc(), accounts, 1_024)?, steps)
+    over(rt, list(rt.alloc(), accounts, ROOM)?, steps)
 }
