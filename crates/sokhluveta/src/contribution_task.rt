@@ -150,7 +150,7 @@ pub(crate) fn reply(heap: Global, text: &str) -> Result<String, Trouble> {
 #[cfg(test)]
 mod tests {
     use super::*;
-    use crate::saying::say;
+    use crate::saying::says;
     use std::test::Fail;
 
     const SHARE: &str = "P PLSHARE00018 1000 1250 10000\n";
@@ -190,6 +190,9 @@ mod tests {
                 "refused 15 c at 1: the ISIN of this security was listed before",
             ),
         ];
-        say(&rt, with_share, &cases)
+        for (more, expected) in cases {
+            says(&rt, with_share(rt.alloc(), more), expected)?;
+        }
+        Ok(())
     }
 }

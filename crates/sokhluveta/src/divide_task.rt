@@ -59,7 +59,7 @@ pub(crate) fn reply(heap: Global, text: &str) -> Result<String, Trouble> {
 #[cfg(test)]
 mod tests {
     use super::*;
-    use crate::saying::say;
+    use crate::saying::says;
     use std::test::Fail;
 
     #[test]
@@ -83,6 +83,9 @@ mod tests {
                 "refused 25 d at 0: more than 64 weights, or weights above 4,000,000,000 in sum",
             ),
         ];
-        say(&rt, reply, &cases)
+        for (text, expected) in cases {
+            says(&rt, reply(rt.alloc(), text), expected)?;
+        }
+        Ok(())
     }
 }

@@ -1,23 +1,18 @@
-// What the program says to texts.
+// What the program says, in the tests of its tasks.
 use crate::trouble::Trouble;
-use std::alloc::Global;
 use std::process::Abort;
 use std::test::Fail;
 
-// Each text, with what a task says to it.
-pub(crate) fn say(
+// The report, or else the trouble, is this text.
+pub(crate) fn says(
     rt: &(impl Abort + AllocGlobal),
-    reply: fn(Global, &str) -> Result<String, Trouble>,
-    cases: &[(&str, &str)],
-) -> Result<(), Fail>
-    requires { IsAlwaysCallable reply }
-{
-    for (text, expected) in cases {
-        let answer = match reply(rt.alloc(), text) {
-            Ok(report) => report,
-            Err(trouble) => trouble.to_string(rt.alloc())?,
-        };
-        assert!(rt; answer.as_str() == *expected, "{}", text);
-    }
+    reply: Result<String, Trouble>,
+    expected: &str,
+) -> Result<(), Fail> {
+    let said = match reply {
+        Ok(report) => report,
+        Err(trouble) => trouble.to_string(rt.alloc())?,
+    };
+    assert_eq!(rt; said.as_str(), expected);
     Ok(())
 }
