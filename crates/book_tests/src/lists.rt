@@ -80,7 +80,7 @@ impl Lists {
         trades: &[LARGE; 11],
     };
 
-    // these and the ones below: something is wrong about the second of two
+    // from here on with something wrong about the second of two
     pub(crate) const MALFORMED_SECURITY: Lists = Lists {
         securities: &[SHARE, BAD_SECURITY],
         ..Lists::IDLE
