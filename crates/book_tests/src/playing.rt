@@ -25,11 +25,9 @@ pub(crate) fn plays<C: House>(rt: &impl Abort, book: &mut Book<C>, steps: &[Step
     assert_eq!(rt; play(book, steps), None);
 }
 
-// The members with these codes join.
-pub(crate) fn join<C: House>(rt: &impl Abort, book: &mut Book<C>, codes: Range<u64>) {
-    for code in codes {
-        assert_eq!(rt; told(book.join(code)), Ok(MINIMUM));
-    }
+// Whether all members with these codes join, each with the minimum.
+pub(crate) fn all_join<C: House>(book: &mut Book<C>, mut codes: Range<u64>) -> bool {
+    codes.all(|code| told(book.join(code)) == Ok(MINIMUM))
 }
 
 // A day over the house.

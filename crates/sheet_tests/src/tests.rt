@@ -11,18 +11,20 @@ fn prints(rt: &(impl Abort + AllocGlobal), sheet: &[u8], text: &str) -> Result<(
     Ok(())
 }
 
-// Each sheet with the text that it prints.
-fn print(rt: &(impl Abort + AllocGlobal), sheets: &[(&str, &str)]) -> Result<(), Fail> {
-    for (sheet, text) in sheets {
-        prints(rt, sheet.as_bytes(), text)?;
+// The first of the sheets that does not print the text beside it.
+fn wrong<'a>(heap: Global, sheets: &[(&'a str, &'a str)]) -> Result<Option<&'a str>, Fail> {
+    for &(sheet, text) in sheets {
+        if run(heap, sheet.as_bytes())?.as_str() != text {
+            return Ok(Some(sheet));
+        }
     }
-    Ok(())
+    Ok(None)
 }
 
 #[test]
 fn first_line(rt: HostRuntime) -> Result<(), Fail> {
-    print(
-        &rt,
+    let wrong = wrong(
+        rt.alloc(),
         &[
             ("", "1 ? N 23 s\nend 0 0 0\n"),
             ("AFG 1", "1 ? N 23 s\nend 0 0 0\n"),
@@ -32,13 +34,15 @@ fn first_line(rt: HostRuntime) -> Result<(), Fail> {
             ("AFG 1\r\n", "1 ? N 23 s\nend 0 0 0\n"),
             ("AFG 1\n", "2 O N 52 h\nend 0 0 0\n"),
         ],
-    )
+    )?;
+    assert_eq!(rt; wrong, None);
+    Ok(())
 }
 
 #[test]
 fn head_house_and_opening(rt: HostRuntime) -> Result<(), Fail> {
-    print(
-        &rt,
+    let wrong = wrong(
+        rt.alloc(),
         &[
             ("AFG 1\nH 1 x\n", "2 ? N 24 s\nend 0 0 0\n"),
             ("AFG 1\nHello\n", "2 ? N 24 s\nend 0 0 0\n"),
@@ -59,13 +63,15 @@ fn head_house_and_opening(rt: HostRuntime) -> Result<(), Fail> {
             ("AFG 1\nH 4294967306 0\n", "3 O N 26 h\nend 0 0 0\n"),
             ("AFG 1\nH 10 10000000000\n", "2 ? N 24 s\nend 0 0 0\n"),
         ],
-    )
+    )?;
+    assert_eq!(rt; wrong, None);
+    Ok(())
 }
 
 #[test]
 fn lines_that_stop(rt: HostRuntime) -> Result<(), Fail> {
-    print(
-        &rt,
+    let wrong = wrong(
+        rt.alloc(),
         &[
             ("AFG 1\nH 0 0\n\n", "3 ? N 24 s\nend 0 0 0\n"),
             ("AFG 1\nH 0 0\n ", "3 ? N 24 s\nend 0 0 0\n"),
@@ -90,13 +96,15 @@ fn lines_that_stop(rt: HostRuntime) -> Result<(), Fail> {
                 "5 J 2000000\n6 ? N 24 s\nend 2000000 2000000 1\n",
             ),
         ],
-    )
+    )?;
+    assert_eq!(rt; wrong, None);
+    Ok(())
 }
 
 #[test]
 fn numbers_keep_their_width(rt: HostRuntime) -> Result<(), Fail> {
-    print(
-        &rt,
+    let wrong = wrong(
+        rt.alloc(),
         &[
             (
                 "AFG 1\nH 0 0\nH 1 9\nJ 9\nJ 9999999999\nL 4294967306\n",
@@ -115,13 +123,15 @@ fn numbers_keep_their_width(rt: HostRuntime) -> Result<(), Fail> {
                 "5 J 2000000\n6 I N 12 b\n7 I N 12 b\n8 X N 12 h\nend 2000000 2000000 1\n",
             ),
         ],
-    )
+    )?;
+    assert_eq!(rt; wrong, None);
+    Ok(())
 }
 
 #[test]
 fn updates_take_the_lines_above(rt: HostRuntime) -> Result<(), Fail> {
-    print(
-        &rt,
+    let wrong = wrong(
+        rt.alloc(),
         &[
             (
                 "AFG 1\nH 0 0\nH 10 10000000\nP PLAAAAAAAAA1 1000 1250 10000\nT 10 PLAAAAAAAAA1 K 50000 1040\nJ 10\nU 10\nT 10 PLAAAAAAAAA1 S 20000 990\nU 10\nR 10\nD 10\njunk\nC\n",
@@ -132,13 +142,15 @@ fn updates_take_the_lines_above(rt: HostRuntime) -> Result<(), Fail> {
                 "4 J 2000000\n6 U N 17 c\n8 U 2000000\n10 U N 15 c\n11 U N 11 b\n12 U N 15 c\nend 2000000 2000000 1\n",
             ),
         ],
-    )
+    )?;
+    assert_eq!(rt; wrong, None);
+    Ok(())
 }
 
 #[test]
 fn cases(rt: HostRuntime) -> Result<(), Fail> {
-    print(
-        &rt,
+    let wrong = wrong(
+        rt.alloc(),
         &[
             (
                 "AFG 1\nH 0 0\nW 0\nB 9999999999\nC\n",
@@ -157,7 +169,9 @@ fn cases(rt: HostRuntime) -> Result<(), Fail> {
                 "5 J 2000000\n6 J N 52 h\n7 I 101\n8 L 2000101\nend 0 0 0\n",
             ),
         ],
-    )
+    )?;
+    assert_eq!(rt; wrong, None);
+    Ok(())
 }
 
 // A head and then ends of lines up to the size.

@@ -150,7 +150,7 @@ pub(crate) fn reply(heap: Global, text: &str) -> Result<String, Trouble> {
 #[cfg(test)]
 mod tests {
     use super::*;
-    use crate::saying::says;
+    use crate::saying::said;
     use std::test::Fail;
 
     const SHARE: &str = "P PLSHARE00018 1000 1250 10000\n";
@@ -191,7 +191,8 @@ mod tests {
             ),
         ];
         for (more, expected) in cases {
-            says(&rt, with_share(rt.alloc(), more), expected)?;
+            let answer = said(rt.alloc(), with_share(rt.alloc(), more))?;
+            assert!(rt; answer.as_str() == expected, "{}", more);
         }
         Ok(())
     }

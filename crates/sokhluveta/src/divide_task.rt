@@ -59,7 +59,7 @@ pub(crate) fn reply(heap: Global, text: &str) -> Result<String, Trouble> {
 #[cfg(test)]
 mod tests {
     use super::*;
-    use crate::saying::says;
+    use crate::saying::said;
     use std::test::Fail;
 
     #[test]
@@ -84,7 +84,8 @@ mod tests {
             ),
         ];
         for (text, expected) in cases {
-            says(&rt, reply(rt.alloc(), text), expected)?;
+            let answer = said(rt.alloc(), reply(rt.alloc(), text))?;
+            assert!(rt; answer.as_str() == expected, "{}", text);
         }
         Ok(())
     }
