@@ -65,7 +65,7 @@ macro_rules! refusal {
 
 pub(crate) use refusal;
 
-// The answer that is the row of a member, by its fields in their order: one line of a table.
+// The answer, with its `Ok`, that is the row of a member, by its fields in their order: one line of a table.
 macro_rules! row {
     ($code:expr, $standing:expr, $base:expr, $reserve:expr, $required:expr, $charged:expr) => {
         Ok($crate::calls::Seen::Member(book::Row {

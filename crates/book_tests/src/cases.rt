@@ -59,7 +59,7 @@ fn ask<C: House>(book: &mut Book<C>, code: u64) -> Answers
 }
 
 fn standing<C: House>(book: &Book<C>, code: u64) -> Option<Standing> {
-    let row = book.rows().iter().find(|row| row.code as u64 == code)?;
+    let row = book.rows().iter().find(|row| u64::from(row.code) == code)?;
     Some(row.standing)
 }
 

@@ -4,7 +4,7 @@ use crate::calls::Seen::*;
 use crate::calls::{Step, refusal, row};
 use crate::lists::Lists;
 use crate::making::{FOUR, ROOM, list, opened, opens, table, with_members};
-use crate::playing::{all_join, on_both, plays};
+use crate::playing::{kept_out, on_both, plays};
 use book::Book;
 use book::Standing::*;
 use houses::House;
@@ -119,7 +119,7 @@ const ALL_ROWS: &[Step] = &[
 ];
 
 fn fill<C: House>(rt: &impl Abort, book: &mut Book<C>) {
-    assert!(rt; all_join(book, 10..74));
+    assert_eq!(rt; kept_out(book, 10..74), None);
     plays(rt, book, ALL_ROWS);
 }
 

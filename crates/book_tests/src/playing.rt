@@ -5,6 +5,7 @@ use crate::desk::Desk;
 use crate::making::{Account, ROOM, list, opened, table};
 use book::Book;
 use contribution::MINIMUM;
+use division::Refusal;
 use houses::House;
 use std::ops::Range;
 use std::process::Abort;
@@ -25,9 +26,14 @@ pub(crate) fn plays<C: House>(rt: &impl Abort, book: &mut Book<C>, steps: &[Step
     assert_eq!(rt; play(book, steps), None);
 }
 
-// Whether all members with these codes join, each with the minimum.
-pub(crate) fn all_join<C: House>(book: &mut Book<C>, mut codes: Range<u64>) -> bool {
-    codes.all(|code| told(book.join(code)) == Ok(MINIMUM))
+// The first of these codes whose member does not join with the minimum, and what it was answered.
+pub(crate) fn kept_out<C: House>(
+    book: &mut Book<C>,
+    codes: Range<u64>,
+) -> Option<(u64, Result<u64, Refusal>)> {
+    codes
+        .map(|code| (code, told(book.join(code))))
+        .find(|(_, answer)| *answer != Ok(MINIMUM))
 }
 
 // A day over the house.

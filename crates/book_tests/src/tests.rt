@@ -1,9 +1,9 @@
-// The calls one by one, asked of the book itself: they stand beside the tables, since what the helpers that play a table overlooked would show here.
+// The calls one by one, asked of the book itself: they stand beside the tables, since what the helper that plays a table overlooked would show here.
 use crate::calls::refusal;
 use crate::cases::{close_elsewhere, told, try_case};
 use crate::lists::{BOUGHT, MALFORMED, SHARE, SOLD};
 use crate::making::{FOUR, opens, over_table, with_members};
-use crate::playing::all_join;
+use crate::playing::kept_out;
 use book::{Book, Standing};
 use contribution::{MINIMUM, Trade};
 use houses::{House, TableHouse};
@@ -13,7 +13,7 @@ use std::test::Fail;
 // The worked example of the rules: members 10 to 13 join.
 fn four(rt: &(impl Abort + AllocGlobal)) -> Result<Book<TableHouse>, Fail> {
     let mut book = over_table(rt.alloc(), FOUR)?;
-    assert!(rt; all_join(&mut book, 10..14));
+    assert_eq!(rt; kept_out(&mut book, 10..14), None);
     Ok(book)
 }
 
@@ -243,7 +243,7 @@ fn other_transfers_leave_the_fund_alone(rt: HostRuntime) -> Result<(), Fail> {
 fn a_book_has_sixty_four_rows(rt: HostRuntime) -> Result<(), Fail> {
     let accounts = with_members(rt.alloc(), &[(0, 0)])?;
     let mut book = over_table(rt.alloc(), &accounts)?;
-    assert!(rt; all_join(&mut book, 10..74));
+    assert_eq!(rt; kept_out(&mut book, 10..74), None);
     assert_eq!(rt; told(book.join(10)), Err(refusal!(32, Book)));
     assert_eq!(rt; told(book.join(74)), Err(refusal!(33, Book)));
     assert_eq!(rt; told(book.leave(42)), Ok(MINIMUM));

@@ -9,7 +9,7 @@ use crate::desks::Desk;
 use crate::entries::{End, Entry, Output, Subject};
 use crate::lines::Request;
 use book::{Book, FUND};
-use houses::{House, TableHouse};
+use houses::TableHouse;
 
 // What the fund's account holds.
 fn fund(book: &mut Book<TableHouse>) -> u64

@@ -6,7 +6,7 @@ use crate::faults::Fault;
 use crate::trades::MemberTrade;
 use book::{ROWS, Row};
 use contribution::{Security, Trade};
-use houses::{ACCOUNTS, Account, Opening};
+use houses::{ACCOUNTS, Account};
 use std::alloc::{AllocError, Global};
 
 // The most securities and trades of a sheet.

@@ -4,27 +4,19 @@ use std::alloc::Global;
 use std::process::Abort;
 use std::test::Fail;
 
-// What the sheet prints is the text.
-fn prints(rt: &(impl Abort + AllocGlobal), sheet: &[u8], text: &str) -> Result<(), Fail> {
-    let out = run(rt.alloc(), sheet)?;
-    assert_eq!(rt; out.as_str(), text);
-    Ok(())
-}
-
-// The first of the sheets that does not print the text beside it.
-fn wrong<'a>(heap: Global, sheets: &[(&'a str, &'a str)]) -> Result<Option<&'a str>, Fail> {
-    for &(sheet, text) in sheets {
-        if run(heap, sheet.as_bytes())?.as_str() != text {
-            return Ok(Some(sheet));
-        }
+// Each sheet prints the text beside it.
+fn prints(rt: &(impl Abort + AllocGlobal), sheets: &[(&str, &str)]) -> Result<(), Fail> {
+    for (sheet, text) in sheets {
+        let out = run(rt.alloc(), sheet.as_bytes())?;
+        assert_eq!(rt; out.as_str(), *text);
     }
-    Ok(None)
+    Ok(())
 }
 
 #[test]
 fn first_line(rt: HostRuntime) -> Result<(), Fail> {
-    let wrong = wrong(
-        rt.alloc(),
+    prints(
+        &rt,
         &[
             ("", "1 ? N 23 s\nend 0 0 0\n"),
             ("AFG 1", "1 ? N 23 s\nend 0 0 0\n"),
@@ -34,15 +26,13 @@ fn first_line(rt: HostRuntime) -> Result<(), Fail> {
             ("AFG 1\r\n", "1 ? N 23 s\nend 0 0 0\n"),
             ("AFG 1\n", "2 O N 52 h\nend 0 0 0\n"),
         ],
-    )?;
-    assert_eq!(rt; wrong, None);
-    Ok(())
+    )
 }
 
 #[test]
 fn head_house_and_opening(rt: HostRuntime) -> Result<(), Fail> {
-    let wrong = wrong(
-        rt.alloc(),
+    prints(
+        &rt,
         &[
             ("AFG 1\nH 1 x\n", "2 ? N 24 s\nend 0 0 0\n"),
             ("AFG 1\nHello\n", "2 ? N 24 s\nend 0 0 0\n"),
@@ -63,15 +53,13 @@ fn head_house_and_opening(rt: HostRuntime) -> Result<(), Fail> {
             ("AFG 1\nH 4294967306 0\n", "3 O N 26 h\nend 0 0 0\n"),
             ("AFG 1\nH 10 10000000000\n", "2 ? N 24 s\nend 0 0 0\n"),
         ],
-    )?;
-    assert_eq!(rt; wrong, None);
-    Ok(())
+    )
 }
 
 #[test]
 fn lines_that_stop(rt: HostRuntime) -> Result<(), Fail> {
-    let wrong = wrong(
-        rt.alloc(),
+    prints(
+        &rt,
         &[
             ("AFG 1\nH 0 0\n\n", "3 ? N 24 s\nend 0 0 0\n"),
             ("AFG 1\nH 0 0\n ", "3 ? N 24 s\nend 0 0 0\n"),
@@ -96,15 +84,13 @@ fn lines_that_stop(rt: HostRuntime) -> Result<(), Fail> {
                 "5 J 2000000\n6 ? N 24 s\nend 2000000 2000000 1\n",
             ),
         ],
-    )?;
-    assert_eq!(rt; wrong, None);
-    Ok(())
+    )
 }
 
 #[test]
 fn numbers_keep_their_width(rt: HostRuntime) -> Result<(), Fail> {
-    let wrong = wrong(
-        rt.alloc(),
+    prints(
+        &rt,
         &[
             (
                 "AFG 1\nH 0 0\nH 1 9\nJ 9\nJ 9999999999\nL 4294967306\n",
@@ -123,15 +109,13 @@ fn numbers_keep_their_width(rt: HostRuntime) -> Result<(), Fail> {
                 "5 J 2000000\n6 I N 12 b\n7 I N 12 b\n8 X N 12 h\nend 2000000 2000000 1\n",
             ),
         ],
-    )?;
-    assert_eq!(rt; wrong, None);
-    Ok(())
+    )
 }
 
 #[test]
 fn updates_take_the_lines_above(rt: HostRuntime) -> Result<(), Fail> {
-    let wrong = wrong(
-        rt.alloc(),
+    prints(
+        &rt,
         &[
             (
                 "AFG 1\nH 0 0\nH 10 10000000\nP PLAAAAAAAAA1 1000 1250 10000\nT 10 PLAAAAAAAAA1 K 50000 1040\nJ 10\nU 10\nT 10 PLAAAAAAAAA1 S 20000 990\nU 10\nR 10\nD 10\njunk\nC\n",
@@ -142,15 +126,13 @@ fn updates_take_the_lines_above(rt: HostRuntime) -> Result<(), Fail> {
                 "4 J 2000000\n6 U N 17 c\n8 U 2000000\n10 U N 15 c\n11 U N 11 b\n12 U N 15 c\nend 2000000 2000000 1\n",
             ),
         ],
-    )?;
-    assert_eq!(rt; wrong, None);
-    Ok(())
+    )
 }
 
 #[test]
 fn cases(rt: HostRuntime) -> Result<(), Fail> {
-    let wrong = wrong(
-        rt.alloc(),
+    prints(
+        &rt,
         &[
             (
                 "AFG 1\nH 0 0\nW 0\nB 9999999999\nC\n",
@@ -169,9 +151,7 @@ fn cases(rt: HostRuntime) -> Result<(), Fail> {
                 "5 J 2000000\n6 J N 52 h\n7 I 101\n8 L 2000101\nend 0 0 0\n",
             ),
         ],
-    )?;
-    assert_eq!(rt; wrong, None);
-    Ok(())
+    )
 }
 
 // A head and then ends of lines up to the size.
@@ -185,17 +165,20 @@ fn sized(heap: Global, size: usize) -> Result<Vec<u8>, Fail> {
 #[test]
 fn sizes(rt: HostRuntime) -> Result<(), Fail> {
     let most = sized(rt.alloc(), 65_536)?;
-    prints(&rt, &most, "3 ? N 24 s\nend 0 0 0\n")?;
+    let out = run(rt.alloc(), most.as_slice())?;
+    assert_eq!(rt; out.as_str(), "3 ? N 24 s\nend 0 0 0\n");
     let more = sized(rt.alloc(), 65_537)?;
-    prints(&rt, &more, "1 ? N 19 s\nend 0 0 0\n")
+    let out = run(rt.alloc(), more.as_slice())?;
+    assert_eq!(rt; out.as_str(), "1 ? N 19 s\nend 0 0 0\n");
+    Ok(())
 }
 
 #[test]
 fn bytes_of_any_kind(rt: HostRuntime) -> Result<(), Fail> {
-    prints(&rt, &[0, 255, 13, 10], "1 ? N 23 s\nend 0 0 0\n")?;
-    prints(
-        &rt,
-        b"AFG 1\nH 0 0\nP \x00\x09\x0d\xff56789012 1 1 1\nU 10\nJ \xff\n",
-        "4 U N 13 c\n5 ? N 24 s\nend 0 0 0\n",
-    )
+    let out = run(rt.alloc(), &[0, 255, 13, 10])?;
+    assert_eq!(rt; out.as_str(), "1 ? N 23 s\nend 0 0 0\n");
+    let sheet = b"AFG 1\nH 0 0\nP \x00\x09\x0d\xff56789012 1 1 1\nU 10\nJ \xff\n";
+    let out = run(rt.alloc(), sheet)?;
+    assert_eq!(rt; out.as_str(), "4 U N 13 c\n5 ? N 24 s\nend 0 0 0\n");
+    Ok(())
 }
