@@ -6,7 +6,7 @@ use crate::house::Account;
 use crate::making::acts::{self, Act, BETWEEN_CASES, IN_A_CASE, QUIET};
 use crate::making::edges;
 use crate::making::random::Random;
-use crate::making::writer::Writer;
+use crate::making::writer::{fund, Writer};
 
 const MOST_PRODUCT: u64 = 100_000_000;
 
@@ -56,16 +56,7 @@ pub fn shown(isin: &Isin) -> String {
 
 impl Day<'_> {
     fn begin(random: &mut Random) -> Day<'_> {
-        let mut accounts = vec![
-            Account {
-                number: 0,
-                balance: 0,
-            },
-            Account {
-                number: 1,
-                balance: random.spread(1_000, 9_999_999_999),
-            },
-        ];
+        let mut accounts = fund(random.spread(1_000, 9_999_999_999));
         let members = random.spread(1, 40);
         let first = random.between(10, 9_000);
         for member in 0..members {
@@ -215,33 +206,27 @@ impl Day<'_> {
     fn use_fund(&mut self) -> Option<String> {
         let sums = self.sheet.desk().book().case_sums()?;
         let most = self.sheet.shares().min(MOST - sums.charged);
-        let whole = self.random.percent(6);
-        (most > 0).then(|| {
-            format!(
-                "W {}",
-                if whole {
-                    most
-                } else {
-                    self.random.spread(1, most)
-                }
-            )
-        })
+        let amount = self.up_to(most, 6)?;
+        Some(format!("W {amount}"))
     }
 
     fn recover(&mut self) -> Option<String> {
         let sums = self.sheet.desk().book().case_sums()?;
         let room = (MOST - self.sheet.shares()).min(self.sheet.balance(1));
         let most = room.min(sums.charged - sums.recovered);
-        let whole = self.random.percent(15);
+        let amount = self.up_to(most, 15)?;
+        Some(format!("B {amount}"))
+    }
+
+    /// An amount up to the most, which it is in so many cases of a hundred; none where there is nothing.
+    fn up_to(&mut self, most: u64, whole: u64) -> Option<u64> {
+        let whole = self.random.percent(whole);
         (most > 0).then(|| {
-            format!(
-                "B {}",
-                if whole {
-                    most
-                } else {
-                    self.random.spread(1, most)
-                }
-            )
+            if whole {
+                most
+            } else {
+                self.random.spread(1, most)
+            }
         })
     }
 }

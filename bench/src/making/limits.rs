@@ -7,7 +7,7 @@ use crate::making::edges;
 use crate::making::forms;
 use crate::making::prices;
 use crate::making::random::Random;
-use crate::making::writer::Writer;
+use crate::making::writer::{fund, Writer};
 
 type Maker = fn(&mut Random) -> Vec<u8>;
 
@@ -34,16 +34,7 @@ pub fn sheet(random: &mut Random, turn: usize) -> Vec<u8> {
 
 /// The fund's account, the settlement account and members from 10 on, all rich.
 pub fn rich(members: u64) -> Vec<Account> {
-    let mut accounts = vec![
-        Account {
-            number: 0,
-            balance: 0,
-        },
-        Account {
-            number: 1,
-            balance: 9_999_999_999,
-        },
-    ];
+    let mut accounts = fund(9_999_999_999);
     accounts.extend((0..members).map(|member| Account {
         number: 10 + member,
         balance: 9_999_999_999,

@@ -9,6 +9,12 @@ pub struct Writer {
     desk: Desk,
 }
 
+/// The fund's account, which is empty, and the settlement account with this balance.
+pub fn fund(settlement: u64) -> Vec<Account> {
+    let account = |number, balance| Account { number, balance };
+    vec![account(0, 0), account(1, settlement)]
+}
+
 impl Writer {
     /// Writes the head; with accounts over which no book opens, the desk is that of an empty house.
     pub fn new(accounts: &[Account]) -> Writer {
