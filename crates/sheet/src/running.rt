@@ -50,7 +50,7 @@ fn run_body(mut desk: Desk, mut lines: Numbered<'_>, out: &mut Output)
     while let Some((line, said)) = lines.next_line() {
         if let Err(fault) = desk.take(line, said, out) {
             out.stop(Stop { line, fault });
-            break;
+            return desk.finish(lines.number, out);
         }
     }
     desk.finish(lines.number, out);
