@@ -78,13 +78,12 @@ pub(crate) fn balance_from(entries: &[Entry], account: u64) -> Option<u64>
     ensures { result ≡ booked entries.now account }
 {
     let opening = first_told(entries, account)?;
-    let paid_in: u128 = entries
-        .iter()
-        .map(|entry| u128::from(entry.brings(account)))
-        .sum();
-    let paid_out: u128 = entries
-        .iter()
-        .map(|entry| u128::from(entry.takes(account)))
-        .sum();
+    // one loop for both: two chains, or a fold of both sums, take half as long again and more
+    let mut paid_in: u128 = 0;
+    let mut paid_out: u128 = 0;
+    for entry in entries {
+        paid_in += u128::from(entry.brings(account));
+        paid_out += u128::from(entry.takes(account));
+    }
     Some((u128::from(opening) + paid_in - paid_out) as u64)
 }
