@@ -25,7 +25,7 @@ pub overflow_add-reached : goal.overflow_add-reached
 overflow_add-reached g c = omega (arith, limited g c)
 
 pub due-requires-clause-weights : goal.due-requires-clause-weights
-due-requires-clause-weights g c = limited g c
+due-requires-clause-weights g c = omega (arith, limited g c)
 
 pub loop-i-preserved : goal.loop-i-preserved
 loop-i-preserved g c =
