@@ -28,7 +28,7 @@ impl<'a> Numbered<'a> {
         ensures number { IfSome result (λ l. l.0 ≡ self.old.number) }
         ensures next { self.new.number ≡ unwrap_or (option_map (λ l. l.0 + 1) result) self.old.number }
     {
-        let line = self.lines.next_line()?;
+        let line = self.lines.next()?;
         let n = self.number;
         self.number += 1;
         Some((n, line))
