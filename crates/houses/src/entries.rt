@@ -54,7 +54,7 @@ impl Entry {
         ensures { result ≡ brings account self.now }
     {
         match *self {
-            Entry::Transfer { to, amount, .. } if u64::from(to) == account => amount,
+            Entry::Transfer { to, amount, .. } if to as u64 == account => amount,
             _ => 0,
         }
     }
@@ -64,7 +64,7 @@ impl Entry {
         ensures { result ≡ takes account self.now }
     {
         match *self {
-            Entry::Transfer { from, amount, .. } if u64::from(from) == account => amount,
+            Entry::Transfer { from, amount, .. } if from as u64 == account => amount,
             _ => 0,
         }
     }
@@ -78,7 +78,7 @@ pub(crate) fn balance_from(entries: &[Entry], account: u64) -> Option<u64>
     ensures { result ≡ booked entries.now account }
 {
     let opening = first_told(entries, account)?;
-    // one loop for both: two chains, or a fold of both sums, take half as long again and more
+    // one loop for both sums, since each call reads all entries
     let mut paid_in: u128 = 0;
     let mut paid_out: u128 = 0;
     for entry in entries {
